@@ -1,0 +1,5 @@
+-- What the functions' proofs cite.
+mod Bits
+mod Squares
+mod Narrow
+mod Quotients

@@ -1,0 +1,13 @@
+-- The definitions that the contracts of `numeric` cite: F64 to Patterns, and Counts. The laws of floats that other crates cite: Whole,
+-- Bounds, Rounding, Counts. Taps proves one law of Counts, and Examples has values worked out.
+pub mod F64
+pub mod Sine
+pub mod Root
+pub mod Convert
+pub mod Patterns
+pub mod Whole
+pub mod Bounds
+pub mod Rounding
+pub mod Taps
+pub mod Counts
+pub mod Examples
