@@ -16,7 +16,7 @@ use Rattle.modem.specs.Resample.{Filter, Flow, State, Ran, state, flow, 
 use Rattle.modem.specs.ResampleHeld.{historyOf, filterIn, InRange, Sound, Run, run, into, fedInto}
 use Rattle.modem.specs.declared.resample.Resampler.{Resampler}
 use Rattle.modem.proofs.Ring.{history-same}
-use Rattle.modem.proofs.Running.{fed-length}
+use Rattle.modem.specs.ResampleLaws.{fed-length}
 
 -- ---- rates that are not refused are in range
 neither : (a b : Bool) → a || b ≡ false → (a ≡ false) × (b ≡ false)

@@ -11,4 +11,5 @@ pub mod CarrierLaws
 pub mod Selftest
 pub mod Design
 pub mod Resample
+pub mod ResampleLaws
 pub mod ResampleHeld
