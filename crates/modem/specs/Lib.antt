@@ -13,3 +13,11 @@ pub mod Design
 pub mod Resample
 pub mod ResampleLaws
 pub mod ResampleHeld
+pub mod Queue
+pub mod QueueLaws
+pub mod Samples
+pub mod Demod
+pub mod DemodLaws
+pub mod Rx
+pub mod RxHeld
+pub mod RxLaws

@@ -1,11 +1,11 @@
 -- Refusals: what a refused call gives, the numbers, and the check of rates. Assumes nothing.
-use Prim.Native.Nat.{ℕ}
+use Prim.Native.Nat.{ℕ, zero, suc}
 use mathlib.Core.Path.{_≡_, refl}
 use mathlib.Core.Bool.{Bool, true, false, not, _&&_, _||_}
 use lib.Dec.{ltb, eqb}
 use Rattle.modem.specs.Roles.{dspRate}
 use Rattle.modem.specs.declared.refusal.Refusal.{Refusal}
-use Rattle.modem.specs.declared.refusal.Refusal.the-variants.{Rate, TooManySamples, OutputTooShort}
+use Rattle.modem.specs.declared.refusal.Refusal.the-variants.{Rate, TooManySamples, BadSample, OutputTooShort, OutOfSamples, BytesWait}
 use Rattle.modem.specs.declared.refusal.Acceptance.{Acceptance}
 use Rattle.modem.specs.declared.refusal.Acceptance.the-variants as acceptance
 use Rattle.modem.specs.declared.refusal.Counted.{Counted}
@@ -33,7 +33,10 @@ first-no n rest = refl
 abbrev pub numberOf : Refusal → ℕ
 numberOf Rate = 1
 numberOf TooManySamples = 3
+numberOf BadSample = 4
 numberOf OutputTooShort = 5
+numberOf OutOfSamples = 31
+numberOf BytesWait = 32
 
 -- what each case of an answer gives
 abbrev pub acceptanceOf : Acceptance → Reply Unit
@@ -43,6 +46,20 @@ acceptanceOf (acceptance.Refused r) = refused (numberOf r)
 abbrev pub countOf : Counted → Reply ℕ
 countOf (counted.Count n) = given n
 countOf (counted.Refused r) = refused (numberOf r)
+
+abbrev pub isAccepted : Acceptance → Bool
+isAccepted acceptance.Accepted = true
+isAccepted (acceptance.Refused r) = false
+
+-- the count given, 0 where it is refused
+abbrev pub countIn : Counted → ℕ
+countIn (counted.Count n) = n
+countIn (counted.Refused r) = 0
+
+-- the answer that a number stands for: 0 is none of the refusals'
+abbrev pub replyOf : ℕ → Reply Unit
+replyOf zero = given tt
+replyOf (suc k) = refused (suc k)
 
 -- the upper limit of refusal 1
 abbrev pub highestRate : ℕ

@@ -37,7 +37,6 @@ fed-length f room (x ∷ xs) s =
     let k = fed-length f (room - length (d .out)) xs (d .flow) in
     either room (wants (d .flow)) d (ran (d .out ++ rest .out) (rest .flow)) h (rw (length-append (d .out) (rest .out)) (omega arith))
 
-
 -- ---- nothing in, nothing out
 pub ran-none : (s : State) (room : ℕ) → ranOver s room [] ≡ ran [] (s .flow)
 unfolding ranOver fed
@@ -53,7 +52,7 @@ unfolding refusalOf tooMany first
 not-refused s n room h l = rw (le-ltb _ _ h, le-ltb _ _ l)
 
 pub accepted : (s : State) (xs out : List Float) → length xs ≤ 2048 → maxOutputLen (s .src) (s .dst) (length xs) ≤ length out
-  → processed s xs out ≡ laid s out (ranOver s (length out) xs)
+    → processed s xs out ≡ laid s out (ranOver s (length out) xs)
 unfolding processed
 accepted s xs out h l = rw (not-refused s (length xs) (length out) h l)
 
@@ -84,6 +83,6 @@ ran-few s xs = by (eqb (s .src) (s .dst))
     n = outputLen (length xs) (s .src) (s .dst)
 
     by : (b : Bool)
-      → length ((if b then ran xs (s .flow) else fed (filterOf (s .src) (s .dst)) (if b then length xs else n) xs (s .flow)) .out) ≤ (if b then length xs else n)
+        → length ((if b then ran xs (s .flow) else fed (filterOf (s .src) (s .dst)) (if b then length xs else n) xs (s .flow)) .out) ≤ (if b then length xs else n)
     by true = le-refl _
     by false = fed-length (filterOf (s .src) (s .dst)) n xs (s .flow)

@@ -3,12 +3,17 @@ ghost use mathlib.Core.Path.{_≡_};
 ghost use Rattle.modem.specs.Roles.{otherRole, tonesOf, samplesPerSymbol};
 
 mod carrier;
+mod demod;
 pub mod frame;
 mod nco;
+mod queue;
 mod refusal;
 pub mod resample;
+pub mod rx;
+mod samples;
 pub mod selftest;
 
+pub use queue::Event;
 pub use refusal::Acceptance;
 pub use refusal::Counted;
 pub use refusal::Refusal;

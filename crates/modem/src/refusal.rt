@@ -11,7 +11,10 @@ pub const HIGHEST_RATE: u32 = 48000;
 pub enum Refusal {
     Rate,
     TooManySamples,
+    BadSample,
     OutputTooShort,
+    OutOfSamples,
+    BytesWait,
 }
 
 impl Refusal {
@@ -22,7 +25,10 @@ impl Refusal {
         match self {
             Refusal::Rate => 1,
             Refusal::TooManySamples => 3,
+            Refusal::BadSample => 4,
             Refusal::OutputTooShort => 5,
+            Refusal::OutOfSamples => 31,
+            Refusal::BytesWait => 32,
         }
     }
 }

@@ -1,0 +1,140 @@
+-- The receiver (rx.rs): the resampler and the demodulator, which hear; two queues; and the number of samples accepted. Assumes nothing.
+use Prim.Native.Nat.{ℕ, zero, suc, _+_}
+use mathlib.Core.Bool.{Bool, true, false, not}
+use mathlib.Core.List.{List, [], _++_}
+use lib.Dec.{ltb}
+use lib.ListN.{length, take, drop}
+use lib.Ieee.{Float}
+use Rattle.numeric.specs.F64.{if_then_else_}
+use Rattle.modem.specs.Roles.{dspRate}
+use Rattle.modem.specs.Refusals.{Reply, given, refused, first, replyOf, rateRefused}
+use Rattle.modem.specs.Resample as resample
+use Rattle.modem.specs.Demod.{hearing, freshDemodulator}
+use Rattle.modem.specs.Samples.{allInRange}
+use Rattle.modem.specs.Queue.{notingAll, readCount, readInto, readRest}
+use Rattle.modem.specs.declared.Role.{Role}
+use Rattle.modem.specs.declared.demod.Demodulator.{Demodulator}
+
+-- ---- what hears
+pub record Demod : Type 0 where
+  pub resampler : resample.State
+  pub inner : Demodulator
+
+abbrev pub demod : resample.State → Demodulator → Demod
+demod s d = record { resampler = s; inner = d }
+
+-- what a list of samples is heard as: the state after them, the bytes heard and the carrier events, in order
+pub record Heard : Type 0 where
+  pub after : Demod
+  pub bytes : List ℕ
+  pub events : List Bool
+
+-- the samples at 8,000 Hz that a list of samples makes, with the room that `max_output_len` gives
+unfoldable pub resampled : resample.State → List Float → resample.Ran
+resampled s xs = resample.ranOver s (resample.maxOutputLen (s .src) (s .dst) (length xs)) xs
+
+unfoldable pub heardBy : Demod → List Float → Heard
+heardBy d xs =
+    let r = resampled (d .resampler) xs in
+    let h = hearing (d .inner) (r .out) in
+    record {
+      after = demod (resample.state (d .resampler .src) (d .resampler .dst) (r .flow)) (h .after);
+      bytes = h .bytes;
+      events = h .events;
+    }
+
+-- fresh, for a device rate and the role of this end
+unfoldable pub freshDemod : ℕ → Role → Demod
+freshDemod rate role = demod (resample.fresh rate dspRate) (freshDemodulator role)
+
+-- ---- the receiver: the bytes that wait and the events that wait are lists, oldest first
+pub record Receiver : Type 0 where
+  pub demod : Demod
+  pub waiting : List ℕ
+  pub noted : List Bool
+  pub accepted : ℕ
+
+abbrev pub receiver : Demod → List ℕ → List Bool → ℕ → Receiver
+receiver d w e n = record { demod = d; waiting = w; noted = e; accepted = n }
+
+unfoldable pub freshReceiver : ℕ → Role → Receiver
+freshReceiver rate role = receiver (freshDemod rate role) [] [] 0
+
+-- ---- `new`
+pub record Made : Type 0 where
+  pub answer : Reply Unit
+  pub state : Receiver
+
+abbrev pub made : Reply Unit → Receiver → Made
+made a r = record { answer = a; state = r }
+
+-- refused 1 it gives a state all the same, the fresh one at 8,000
+unfoldable pub newOf : ℕ → Role → Made
+newOf rate role = if rateRefused rate then made (refused 1) (freshReceiver dspRate role) else made (given tt) (freshReceiver rate role)
+
+-- ---- `write`
+-- of a list of samples, where so many were accepted and so many bytes wait:
+-- "3 more than 1,024 samples. 4 a sample not finite or beyond ±1. 31 the call would pass 4,294,967,296 samples for this receiver.
+-- 32 more than 409 of 512 received bytes wait". "Checks run in ascending number; the first that applies is given"
+unfoldable pub refusedBy : List Float → ℕ → ℕ → ℕ
+refusedBy xs accepted waiting =
+    first (ltb 1024 (length xs)) 3
+    (first (not (allInRange xs)) 4
+    (first (ltb 4294967296 (accepted + length xs)) 31
+    (first (ltb 409 waiting) 32 0)))
+
+abbrev pub refusalOf : Receiver → List Float → ℕ
+refusalOf r xs = refusedBy xs (r .accepted) (length (r .waiting))
+
+pub record Written : Type 0 where
+  pub answer : Reply Unit
+  pub state : Receiver
+
+abbrev pub wrote : Reply Unit → Receiver → Written
+wrote a r = record { answer = a; state = r }
+
+-- an accepted write: the bytes heard join those that wait, all of them; "The event queue holds 64; one more drops the oldest"
+unfoldable pub acceptedBy : Receiver → List Float → Receiver
+acceptedBy r xs =
+    let h = heardBy (r .demod) xs in
+    receiver (h .after) (r .waiting ++ h .bytes) (notingAll (r .noted) (h .events)) (r .accepted + length xs)
+
+-- "A refused call returns its number alone and leaves state and buffers untouched"
+abbrev pub unlessRefused : ℕ → Receiver → Receiver → Written
+unlessRefused zero r after = wrote (replyOf zero) after
+unlessRefused (suc k) r after = wrote (replyOf (suc k)) r
+
+unfoldable pub written : Receiver → List Float → Written
+written r xs = unlessRefused (refusalOf r xs) r (acceptedBy r xs)
+
+-- ---- `read`, `events`, `carrier_detected`, `framing_errors`
+pub record ReadOut : Type 0 where
+  pub count : ℕ
+  pub state : Receiver
+  pub buf : List ℕ
+
+abbrev pub readOut : ℕ → Receiver → List ℕ → ReadOut
+readOut n r b = record { count = n; state = r; buf = b }
+
+-- as many as wait and as buf has room for, oldest first; the rest of buf is left alone
+unfoldable pub readOf : Receiver → List ℕ → ReadOut
+readOf r buf =
+    readOut (readCount (r .waiting) buf) (receiver (r .demod) (readRest (r .waiting) buf) (r .noted) (r .accepted)) (readInto (r .waiting) buf)
+
+pub record Taken : Type 0 where
+  pub event : List Bool
+  pub state : Receiver
+
+abbrev pub taken : List Bool → Receiver → Taken
+taken e r = record { event = e; state = r }
+
+-- the oldest event, if there is one; true is up
+unfoldable pub eventOf : Receiver → Taken
+eventOf r = taken (take 1 (r .noted)) (receiver (r .demod) (r .waiting) (drop 1 (r .noted)) (r .accepted))
+
+-- the latched report
+abbrev pub carrierOf : Receiver → Bool
+carrierOf r = r .demod .inner .core .latch .qualified
+
+abbrev pub errorsOf : Receiver → ℕ
+errorsOf r = r .demod .inner .core .deframer .errors
