@@ -1,0 +1,114 @@
+// The C interface that `port.rs` of the comparison declares.
+
+use core::slice::{from_raw_parts, from_raw_parts_mut};
+
+use crate::oracle;
+
+#[no_mangle]
+unsafe extern "C" fn morkhetta_resample(
+    src: u32,
+    dst: u32,
+    input: *const f64,
+    input_len: usize,
+    lengths: *const u32,
+    lengths_len: usize,
+    output: *mut f64,
+    output_len: usize,
+    answers: *mut u64,
+    answers_len: usize,
+) -> usize {
+    oracle::resample(
+        src,
+        dst,
+        from_raw_parts(input, input_len),
+        from_raw_parts(lengths, lengths_len),
+        from_raw_parts_mut(output, output_len),
+        from_raw_parts_mut(answers, answers_len),
+    )
+}
+
+#[no_mangle]
+unsafe extern "C" fn morkhetta_max_output_len(
+    src: u32,
+    dst: u32,
+    lengths: *const u32,
+    lengths_len: usize,
+    answers: *mut u64,
+    answers_len: usize,
+) -> usize {
+    oracle::max_output_len(
+        src,
+        dst,
+        from_raw_parts(lengths, lengths_len),
+        from_raw_parts_mut(answers, answers_len),
+    )
+}
+
+#[no_mangle]
+unsafe extern "C" fn morkhetta_receive(
+    rate: u32,
+    role: u32,
+    samples: *const f32,
+    samples_len: usize,
+    script: *const u32,
+    script_len: usize,
+    bytes: *mut u8,
+    bytes_len: usize,
+    events: *mut u8,
+    events_len: usize,
+    answers: *mut u64,
+    answers_len: usize,
+) -> usize {
+    oracle::receive(
+        rate,
+        role,
+        from_raw_parts(samples, samples_len),
+        from_raw_parts(script, script_len),
+        from_raw_parts_mut(bytes, bytes_len),
+        from_raw_parts_mut(events, events_len),
+        from_raw_parts_mut(answers, answers_len),
+    )
+}
+
+#[no_mangle]
+unsafe extern "C" fn morkhetta_receiver_state(
+    rate: u32,
+    role: u32,
+    samples: *const f32,
+    samples_len: usize,
+    script: *const u32,
+    script_len: usize,
+    state: *mut f64,
+    state_len: usize,
+) -> u32 {
+    oracle::receiver_state(
+        rate,
+        role,
+        from_raw_parts(samples, samples_len),
+        from_raw_parts(script, script_len),
+        from_raw_parts_mut(state, state_len),
+    )
+}
+
+#[no_mangle]
+unsafe extern "C" fn morkhetta_send(
+    rate: u32,
+    role: u32,
+    script: *const u32,
+    script_len: usize,
+    data: *const u8,
+    data_len: usize,
+    output: *mut f32,
+    output_len: usize,
+    answers: *mut u64,
+    answers_len: usize,
+) -> usize {
+    oracle::send(
+        rate,
+        role,
+        from_raw_parts(script, script_len),
+        from_raw_parts(data, data_len),
+        from_raw_parts_mut(output, output_len),
+        from_raw_parts_mut(answers, answers_len),
+    )
+}

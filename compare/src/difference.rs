@@ -1,0 +1,85 @@
+//! Where two answers to the same calls differ, in words.
+
+use crate::cases::{Heard, Resampled, Sent};
+use crate::layout::{HEARD, STATE, TOLD};
+
+/// The first difference between what the original and the port answered.
+pub type Difference = Option<String>;
+
+/// Bit for bit; only the bits of a NaN are left free.
+fn same(a: f64, b: f64) -> bool {
+    a.to_bits() == b.to_bits() || (a.is_nan() && b.is_nan())
+}
+
+fn differ<T: PartialEq + std::fmt::Debug>(what: &str, a: &T, b: &T) -> Difference {
+    (a != b).then(|| format!("{what}: {a:?} from the original, {b:?} from the port"))
+}
+
+fn in_list<T: PartialEq + std::fmt::Debug>(what: &str, a: &[T], b: &[T]) -> Difference {
+    let at = a.iter().zip(b).position(|(a, b)| a != b)?;
+    differ(&format!("{what} {at}"), &a[at], &b[at])
+}
+
+/// In answers of two numbers, to calls or steps.
+fn in_told(what: &str, a: &[u64], b: &[u64]) -> Difference {
+    let at = a.iter().zip(b).position(|(a, b)| a != b)?;
+    let name = ["refusal", "count"][at % TOLD];
+    differ(&format!("{what} {}, {name}", at / TOLD), &a[at], &b[at])
+}
+
+fn in_floats(a: &[f64], b: &[f64], name: &dyn Fn(usize) -> String) -> Difference {
+    let at = a.iter().zip(b).position(|(&a, &b)| !same(a, b))?;
+    Some(format!(
+        "{}: {:016X} ({:e}) from the original, {:016X} ({:e}) from the port",
+        name(at),
+        a[at].to_bits(),
+        a[at],
+        b[at].to_bits(),
+        b[at]
+    ))
+}
+
+/// What number `at` of a receiver's state is called.
+fn place_name(at: usize) -> String {
+    let mut first = 0;
+    for (name, len) in STATE {
+        if at < first + len {
+            return format!("state at the end, {name} [{}]", at - first);
+        }
+        first += len;
+    }
+    "state behind its end".into()
+}
+
+pub fn of_heard(a: &Heard, b: &Heard) -> Difference {
+    let names = ["answer", "bytes read", "events drained", "carrier", "framing errors"];
+    differ("calls run", &a.calls, &b.calls)
+        .or_else(|| {
+            let at = a.answers.iter().zip(&b.answers).position(|(a, b)| a != b)?;
+            let what = format!("call {}, {}", at / HEARD, names[at % HEARD]);
+            differ(&what, &a.answers[at], &b.answers[at])
+        })
+        .or_else(|| in_list("byte", &a.bytes, &b.bytes))
+        .or_else(|| in_list("event", &a.events, &b.events))
+        .or_else(|| in_floats(&a.state, &b.state, &place_name))
+}
+
+pub fn of_resampled(a: &Resampled, b: &Resampled) -> Difference {
+    differ("calls run", &a.calls, &b.calls)
+        .or_else(|| in_told("answer to call", &a.answers, &b.answers))
+        .or_else(|| in_floats(&a.output, &b.output, &|at| format!("output sample {at}")))
+}
+
+pub fn of_sent(a: &Sent, b: &Sent) -> Difference {
+    let bits = |s: &[f32]| -> Vec<u32> { s.iter().map(|x| x.to_bits()).collect() };
+    differ("steps run", &a.steps, &b.steps)
+        .or_else(|| in_told("answer to step", &a.answers, &b.answers))
+        .or_else(|| {
+            let (a, b) = (bits(&a.output), bits(&b.output));
+            let at = a.iter().zip(&b).position(|(a, b)| a != b)?;
+            Some(format!(
+                "sample {at}: {:08X} from the original, {:08X} from the port",
+                a[at], b[at]
+            ))
+        })
+}

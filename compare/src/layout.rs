@@ -1,0 +1,100 @@
+//! How a list of calls and its answers lie in the slices that are passed to
+//! either side. `oracle.rs` (the original) and `port.rs` (the C functions)
+//! follow it; `again` compiles this file too.
+
+/// The two roles as numbers.
+pub const ORIGINATE: u32 = 0;
+pub const ANSWER: u32 = 1;
+
+// The answer to a call of the resampler or to a sender's step is two numbers:
+// 0 or the number of the refusal; then the count or the number asked for, 0
+// where there is none.
+pub const TOLD: usize = 2;
+
+// A receiver's script has three numbers for each call: the samples to write,
+// then at most how many bytes to read and how many events to drain.
+pub const CALL: usize = 3;
+
+// A receiver's answers are five numbers for each call: 0 or the number of the
+// refusal, bytes read, events drained, carrier (0 or 1), framing errors.
+pub const HEARD: usize = 5;
+
+// A sender's script has two numbers for each step: one of the kinds below, and
+// its number.
+pub const STEP: usize = 2;
+/// Write that many bytes, the next ones of the data.
+pub const WRITE: u32 = 0;
+/// Write that many bits of idle mark.
+pub const IDLE_MARK: u32 = 1;
+/// Read that many samples, behind the earlier ones.
+pub const READ: u32 = 2;
+/// Set the amplitude to the f32 with these bits.
+pub const AMPLITUDE: u32 = 3;
+/// Ask how many samples that many bits take.
+pub const SAMPLES_FOR_BITS: u32 = 4;
+/// Ask whether bits wait: 1 or 0.
+pub const PENDING: u32 = 5;
+
+/// Places of a receiver's filter, used in full at 48,000.
+pub const TAPS: usize = 373;
+/// Places of each ring of the correlator.
+pub const WINDOW: usize = 27;
+
+/// A receiver's state as a list of f64: each part's name and number of places.
+/// Whole numbers stand as themselves, yes and no as 1.0 and 0.0, and places
+/// that a rate does not use as 0.0. Rings stand in the order in which they are
+/// summed: the filter's history newest first, the correlator's in place order.
+pub const STATE: [(&str, usize); 39] = [
+    ("taps", TAPS),
+    ("fir_hist, newest first", TAPS),
+    ("herm_hist", 4),
+    ("frac_pos", 1),
+    ("n_pushed", 1),
+    ("step", 1),
+    ("pos", 1),
+    ("filled", 1),
+    ("mark_i", WINDOW),
+    ("mark_q", WINDOW),
+    ("space_i", WINDOW),
+    ("space_q", WINDOW),
+    ("phase_m", 1),
+    ("phase_s", 1),
+    ("inc_m", 1),
+    ("inc_s", 1),
+    ("sym_phase", 1),
+    ("sym_inc", 1),
+    ("last_sym", 1),
+    ("mid_sym", 1),
+    ("have_mid", 1),
+    ("in_frame", 1),
+    ("bit_count", 1),
+    ("acc", 1),
+    ("errors", 1),
+    ("level", 1),
+    ("floor", 1),
+    ("detected", 1),
+    ("holdoff", 1),
+    ("mark probes: coeff, s1, s2 of each", 15),
+    ("own probes: coeff, s1, s2 of each", 6),
+    ("wideband", 1),
+    ("count", 1),
+    ("gate_open", 1),
+    ("qualified", 1),
+    ("qualified_ever", 1),
+    ("bytes waiting", 1),
+    ("events waiting", 1),
+    ("samples accepted", 1),
+];
+
+/// The number of f64 in a receiver's state.
+pub const STATE_LEN: usize = state_len();
+
+const fn state_len() -> usize {
+    let mut sum = 0;
+    let mut i = 0;
+    while i < STATE.len() {
+        sum += STATE[i].1;
+        i += 1;
+    }
+    sum
+}

@@ -1,0 +1,83 @@
+//! What the receiver cases of one kind brought about, so that a reader sees
+//! that they reach the parts of the receiver that they are there for.
+
+use std::collections::BTreeMap;
+
+use crate::cases::{Heard, ReceiverCase};
+use crate::layout::HEARD;
+
+#[derive(Default)]
+pub struct Tally {
+    cases: u32,
+    seconds: f64,
+    writes: usize,
+    bytes: usize,
+    errors: u64,
+    ups: usize,
+    downs: usize,
+    /// Cases in which the queue dropped its oldest event.
+    overflows: u32,
+    refused: BTreeMap<u64, usize>,
+}
+
+impl Tally {
+    pub fn add(&mut self, case: &ReceiverCase, heard: &Heard) {
+        self.cases += 1;
+        self.seconds += case.samples.len() as f64 / f64::from(case.rate);
+        let (mut drained, mut changes, mut carrier) = (0, 0, 0);
+        for call in heard.answers.chunks_exact(HEARD) {
+            self.writes += 1;
+            if call[0] != 0 {
+                *self.refused.entry(call[0]).or_default() += 1;
+            }
+            self.bytes += call[1] as usize;
+            drained += call[2] as usize;
+            changes += usize::from(call[3] != carrier);
+            carrier = call[3];
+        }
+        self.errors += heard.answers[heard.answers.len() - 1];
+        let ups = heard.events[..drained].iter().filter(|&&e| e == 1).count();
+        self.ups += ups;
+        self.downs += drained - ups;
+        // A change of the report that never came out as an event was dropped.
+        self.overflows += u32::from(changes > drained);
+    }
+
+    pub fn join(&mut self, other: &Tally) {
+        self.cases += other.cases;
+        self.seconds += other.seconds;
+        self.writes += other.writes;
+        self.bytes += other.bytes;
+        self.errors += other.errors;
+        self.ups += other.ups;
+        self.downs += other.downs;
+        self.overflows += other.overflows;
+        for (&number, &n) in &other.refused {
+            *self.refused.entry(number).or_default() += n;
+        }
+    }
+
+    pub fn heading() {
+        println!(
+            "{:30} {:>5} {:>7} {:>8} {:>7} {:>7} {:>5} {:>5} {:>5}  refused",
+            "kind", "cases", "seconds", "writes", "bytes", "errors", "ups", "downs", "over"
+        );
+    }
+
+    pub fn print(&self, name: &str) {
+        let refused: Vec<String> =
+            self.refused.iter().map(|(number, n)| format!("{number}: {n}")).collect();
+        println!(
+            "{name:30} {:>5} {:>7.0} {:>8} {:>7} {:>7} {:>5} {:>5} {:>5}  {}",
+            self.cases,
+            self.seconds,
+            self.writes,
+            self.bytes,
+            self.errors,
+            self.ups,
+            self.downs,
+            self.overflows,
+            refused.join(", ")
+        );
+    }
+}

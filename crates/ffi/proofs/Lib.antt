@@ -1,0 +1,3 @@
+-- Laws that more than one proof of `ffi` cites.
+pub mod Parts
+pub mod Calls

@@ -1,0 +1,18 @@
+-- How an answer stands in a list of numbers. Assumes nothing.
+use Prim.Native.Nat.{ℕ}
+use mathlib.Core.List.{List, [], _∷_}
+use Rattle.modem.specs.Refusals.{Reply, given, refused}
+
+-- the refusal's number, 0 where there is none
+abbrev pub numberIn : Reply ℕ → ℕ
+numberIn (given n) = 0
+numberIn (refused k) = k
+
+-- the count, 0 where the call is refused
+abbrev pub countIn : Reply ℕ → ℕ
+countIn (given n) = n
+countIn (refused k) = 0
+
+-- the two numbers of a call's answer
+abbrev pub told : Reply ℕ → List ℕ
+told r = numberIn r ∷ countIn r ∷ []

@@ -1,0 +1,4 @@
+// Functions for hosts in C and Rust, and for runs against the Rust original: each runs a whole list of calls from a fresh state.
+// include/morkhetta.h declares them.
+mod answers;
+pub mod resample;
