@@ -4,7 +4,7 @@ use mathlib.Core.List.{List, [], _∷_}
 use Rattle.modem.specs.Refusals.{Reply, given, refused}
 
 -- the refusal's number, 0 where there is none
-abbrev pub numberIn : Reply ℕ → ℕ
+abbrev pub numberIn : {A : Type 0} → Reply A → ℕ
 numberIn (given n) = 0
 numberIn (refused k) = k
 

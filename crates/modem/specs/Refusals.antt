@@ -56,7 +56,7 @@ abbrev pub countIn : Counted → ℕ
 countIn (counted.Count n) = n
 countIn (counted.Refused r) = 0
 
--- the answer that a number stands for: 0 is none of the refusals'
+-- the answer that a number stands for: 0 stands for acceptance
 abbrev pub replyOf : ℕ → Reply Unit
 replyOf zero = given tt
 replyOf (suc k) = refused (suc k)

@@ -126,7 +126,7 @@ drained f (suc room) s =
     else ran [] s
 
 -- each sample of the input and the outputs that it makes ready. One after which an output is still ready, for want of room, is the last
--- that is taken, as in the Rust; a call has room enough unless its count has passed what an f64 can hold
+-- that is taken, as in the Rust
 unfoldable pub fed : Filter → ℕ → List Float → Flow → Ran
 fed f room [] s = ran [] s
 fed f room (x ∷ xs) s =
