@@ -1,7 +1,7 @@
 // Words, numbers and answers on standard output.
-use modem::Acceptance;
-use modem::Counted;
-use modem::Refusal;
+use refusal::Acceptance;
+use refusal::Counted;
+use refusal::Refusal;
 
 pub fn text(words: &[u8]) {
     io::write_all(1, words);

@@ -1,6 +1,6 @@
 // The resampler's rates, taps, lengths and refusals, and that a refused call writes nothing.
 use crate::print;
-use modem::resample::Resampler;
+use resampling::resample::Resampler;
 ghost use mathlib.Core.Path.{_≡_};
 ghost use Prim.Native.Nat.{_≤_};
 ghost use lib.ListN.{length};

@@ -10,10 +10,10 @@ use lib.ListN.{length, getD, take, drop, length-append, length-drop, take-append
 use lib.Seq.{drop-cons, length-take-le}
 use lib.Ieee.{Float}
 use Rattle.numeric.specs.F64.{if_then_else_}
-use Rattle.modem.specs.Refusals.{Reply, given, refused, ratesRefused}
-use Rattle.modem.specs.Resample.{State, fresh, Made, made, newOf, Ran, Outcome, outcome, laid, unlessRefused, refusalOf, ranOver, lenOf, processed}
-use Rattle.modem.specs.ResampleHeld.{stateOf, Sound}
-use Rattle.modem.specs.declared.resample.Resampler.{Resampler}
+use Rattle.refusal.specs.Refusals.{Reply, given, refused, ratesRefused}
+use Rattle.resampling.specs.Resample.{State, fresh, Made, made, newOf, Ran, Outcome, outcome, laid, unlessRefused, refusalOf, ranOver, lenOf, processed}
+use Rattle.resampling.specs.ResampleHeld.{stateOf, Sound}
+use Rattle.resampling.specs.declared.resample.Resampler.{Resampler}
 use Rattle.ffi.proofs.Parts.{take-behind, drop-behind, next-two, part-next, part-left, rest-is, rest-put}
 use Rattle.ffi.specs.Answers.{numberIn, countIn, told}
 use Rattle.ffi.specs.declared.answers.Told.{Told}

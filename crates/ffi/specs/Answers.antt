@@ -1,7 +1,7 @@
 -- How an answer stands in a list of numbers. Assumes nothing.
 use Prim.Native.Nat.{ℕ}
 use mathlib.Core.List.{List, [], _∷_}
-use Rattle.modem.specs.Refusals.{Reply, given, refused}
+use Rattle.refusal.specs.Refusals.{Reply, given, refused}
 
 -- the refusal's number, 0 where there is none
 abbrev pub numberIn : {A : Type 0} → Reply A → ℕ

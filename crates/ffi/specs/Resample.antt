@@ -4,8 +4,8 @@ use mathlib.Core.List.{List, [], _∷_, _++_}
 use lib.ListN.{take, drop}
 use lib.Ieee.{Float}
 use Rattle.numeric.specs.F64.{if_then_else_}
-use Rattle.modem.specs.Refusals.{ratesRefused}
-use Rattle.modem.specs.Resample.{State, fresh, lenOf, processed}
+use Rattle.refusal.specs.Refusals.{ratesRefused}
+use Rattle.resampling.specs.Resample.{State, fresh, lenOf, processed}
 use Rattle.ffi.specs.Answers.{countIn, told}
 
 -- what a list of calls leaves: how many were run, the lent output, and the lent answers

@@ -4,8 +4,8 @@ use mathlib.Core.Path.{_≡_}
 use mathlib.Core.List.{List, _++_}
 use lib.ListN.{length, take, drop}
 use lib.Ieee.{Float}
-use Rattle.modem.specs.Resample.{Outcome, processed}
-use Rattle.modem.specs.ResampleHeld.{stateOf, Sound}
+use Rattle.resampling.specs.Resample.{Outcome, processed}
+use Rattle.resampling.specs.ResampleHeld.{stateOf, Sound}
 use Rattle.ffi.specs.Answers.{countIn, told}
 use Rattle.ffi.specs.declared.resample.Place.{Place}
 

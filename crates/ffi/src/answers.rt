@@ -1,10 +1,10 @@
 // How a call's answer goes into a lent slice: two numbers, the refusal and the count.
-use modem::Counted;
+use refusal::Counted;
 ghost use mathlib.Core.Path.{_≡_};
 ghost use mathlib.Core.List.{_∷_, _++_};
 ghost use Prim.Native.Nat.{_+_, _*_, _≤_, _<_};
 ghost use lib.ListN.{length, take, drop};
-ghost use Rattle.modem.specs.Refusals.{countOf};
+ghost use Rattle.refusal.specs.Refusals.{countOf};
 ghost use Rattle.ffi.specs.Answers.{numberIn, countIn};
 
 // Document 01's number, 0 where the call is accepted; and the count, 0 where it is refused.

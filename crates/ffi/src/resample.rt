@@ -2,14 +2,14 @@
 use crate::answers::calls_in;
 use crate::answers::tell;
 use crate::answers::told_of;
-use modem::Acceptance;
-use modem::resample::Resampler;
+use refusal::Acceptance;
+use resampling::resample::Resampler;
 ghost use mathlib.Core.Path.{_≡_};
 ghost use mathlib.Core.List.{[], _++_};
 ghost use Prim.Native.Nat.{min, _+_, _*_, _-_, _≤_, _<_};
 ghost use lib.ListN.{length, take, drop};
-ghost use Rattle.modem.specs.Resample.{lenOf};
-ghost use Rattle.modem.specs.ResampleHeld.{stateOf, Sound};
+ghost use Rattle.resampling.specs.Resample.{lenOf};
+ghost use Rattle.resampling.specs.ResampleHeld.{stateOf, Sound};
 ghost use Rattle.ffi.specs.Answers.{told};
 ghost use Rattle.ffi.specs.Resample.{ran, processedFrom, resampleRun, lengthsFrom, lengthsRun};
 ghost use Rattle.ffi.specs.Steps.{Within, Stepped};

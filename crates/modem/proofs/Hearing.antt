@@ -7,8 +7,8 @@ use native.Mathlib.Nat.{add-zero}
 use native.Mathlib.Omega.{arith}
 use lib.ListN.{length, getD, take, drop, length-append}
 use lib.Ieee.{Float, nan}
-use Rattle.modem.specs.Fold.{fold}
-use Rattle.modem.specs.Frame.{bytesOf}
+use Rattle.numeric.specs.Fold.{fold}
+use Rattle.framing.specs.Frame.{bytesOf}
 use Rattle.modem.specs.Queue.{noted, notingAll, eventsOf, EventsHeld, EventsWait, Kept}
 use Rattle.modem.specs.QueueLaws.{noting-all-append}
 use Rattle.modem.specs.Demod.{Step, hearing, stepOf, Tuned}

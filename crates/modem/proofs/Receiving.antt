@@ -9,22 +9,22 @@ use borrow.Author.Tests.{le-ltb, ltb-false}
 use lib.ListN.{length, take, drop, length-append, length-drop}
 use lib.Seq.{take-append-seam, length-take-le}
 use lib.Ieee.{Float}
-use Rattle.modem.specs.Refusals.{Reply, given, refused, countOf, countIn, acceptanceOf, isAccepted, replyOf, first, rateRefused, ratesRefused}
-use Rattle.modem.specs.Resample.{State, Ran, Made, made, newOf, fresh, state, outcome, Outcome, lenOf, tooMany, maxOutputLen, processed, laid}
-use Rattle.modem.specs.ResampleLaws.{accepted, ran-few, output-few}
-use Rattle.modem.specs.ResampleHeld.{stateOf, Sound}
+use Rattle.refusal.specs.Refusals.{Reply, given, refused, countOf, countIn, acceptanceOf, isAccepted, replyOf, first, rateRefused, ratesRefused}
+use Rattle.resampling.specs.Resample.{State, Ran, Made, made, newOf, fresh, state, outcome, Outcome, lenOf, tooMany, maxOutputLen, processed, laid}
+use Rattle.resampling.specs.ResampleLaws.{accepted, ran-few, output-few}
+use Rattle.resampling.specs.ResampleHeld.{stateOf, Sound}
 use Rattle.modem.specs.Rx.{resampled, Receiver, refusedBy, refusalOf, acceptedBy, wrote, written, unlessRefused}
 use Rattle.modem.specs.Samples.{allInRange}
-use Rattle.modem.specs.Framing.{held-most}
+use Rattle.framing.specs.Framing.{held-most}
 use Rattle.modem.specs.Demod.{hearing}
 use Rattle.modem.specs.DemodLaws.{hearing-few}
 use Rattle.modem.specs.declared.demod.Demodulator.{Demodulator}
 use Rattle.modem.specs.RxHeld.{Resamples}
-use Rattle.modem.specs.declared.refusal.Acceptance.{Acceptance}
-use Rattle.modem.specs.declared.refusal.Acceptance.the-variants as acceptance
-use Rattle.modem.specs.declared.refusal.Counted.{Counted}
-use Rattle.modem.specs.declared.refusal.Counted.the-variants as counted
-use Rattle.modem.specs.declared.resample.Resampler.{Resampler}
+use Rattle.refusal.specs.declared.Acceptance.{Acceptance}
+use Rattle.refusal.specs.declared.Acceptance.the-variants as acceptance
+use Rattle.refusal.specs.declared.Counted.{Counted}
+use Rattle.refusal.specs.declared.Counted.the-variants as counted
+use Rattle.resampling.specs.declared.resample.Resampler.{Resampler}
 
 -- ---- a fresh resampler down to 8,000
 one-rate : (rate : ℕ) → rateRefused rate ≡ false → ratesRefused rate 8000 ≡ false

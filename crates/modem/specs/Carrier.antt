@@ -5,7 +5,7 @@ use mathlib.Core.List.{List, [], _∷_, map}
 use lib.Dec.{ltb}
 use lib.Ieee.{Float, neg}
 use Rattle.numeric.specs.F64.{_⊕_, _⊖_, _⊗_, _⊘_, _<ᶠ_, if_then_else_, f64, zero64, one64, two64, larger}
-use Rattle.modem.specs.Fold.{fold}
+use Rattle.numeric.specs.Fold.{fold}
 use Rattle.modem.specs.Nco.{goertzelNew, goertzelFeed, goertzelPower, goertzelReset}
 use Rattle.modem.specs.declared.nco.Goertzel.{Goertzel}
 use Rattle.modem.specs.declared.carrier.CarrierDetector.{CarrierDetector}

@@ -10,7 +10,7 @@ use lib.Dec.{ltb}
 use lib.Ieee.{Float}
 use lib.ListN.{length, take, length-map}
 use Rattle.numeric.specs.F64.{_⊗_, _⊘_, _<ᶠ_, if_then_else_, f64, one64}
-use Rattle.modem.specs.Fold.{fold}
+use Rattle.numeric.specs.Fold.{fold}
 use Rattle.modem.specs.Carrier.{levelOf, floorMinFraction, floorOf, ratioOf, riseRatio, fallRatio, detector, whileUp, whileDown, updated}
 use Rattle.modem.specs.Carrier.{unfinished, finished, yesOf, endedAnswer, judged, narrowOf, othersOf, dominanceRatio, freshDominance, withSample, dominanceReset, dominanceStep}
 use Rattle.modem.specs.declared.carrier.CarrierDetector.{CarrierDetector}

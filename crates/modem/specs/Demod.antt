@@ -8,18 +8,19 @@ use lib.ListN.{set, replicate}
 use Rattle.numeric.specs.F64.{_⊕_, _⊖_, _⊗_, _⊘_, _<ᶠ_, _≤ᶠ_, if_then_else_, f64, whole, zero64, half64, one64, magnitude, tau}
 use Rattle.numeric.specs.Sine.{sineOf, cosineOf}
 use Rattle.numeric.specs.Root.{rootOf}
-use Rattle.modem.specs.Fold.{fold}
-use Rattle.modem.specs.Roles.{dspRate, samplesPerSymbol, otherRole, tonesOf}
-use Rattle.modem.specs.Frame.{freshDeframer, waiting, pushBit, bytesOf}
+use Rattle.numeric.specs.Fold.{fold}
+use Rattle.refusal.specs.Refusals.{dspRate}
+use Rattle.modem.specs.Roles.{samplesPerSymbol, otherRole, tonesOf}
+use Rattle.framing.specs.Frame.{freshDeframer, waiting, pushBit, bytesOf}
 use Rattle.modem.specs.Nco.{turned}
 use Rattle.modem.specs.Queue.{eventsOf}
 use Rattle.modem.specs.Carrier.{freshDetector, updated, freshDominance, dominanceStep}
 use Rattle.modem.specs.declared.Role.{Role}
 use Rattle.modem.specs.declared.TonePair.{TonePair}
-use Rattle.modem.specs.declared.frame.Deframer.{Deframer}
-use Rattle.modem.specs.declared.frame.Heard.{Heard}
-use Rattle.modem.specs.declared.frame.Heard.the-variants.{Waiting}
-use Rattle.modem.specs.declared.frame.Pushed.{Pushed}
+use Rattle.framing.specs.declared.frame.Deframer.{Deframer}
+use Rattle.framing.specs.declared.frame.Heard.{Heard}
+use Rattle.framing.specs.declared.frame.Heard.the-variants.{Waiting}
+use Rattle.framing.specs.declared.frame.Pushed.{Pushed}
 use Rattle.modem.specs.declared.carrier.CarrierDetector.{CarrierDetector}
 use Rattle.modem.specs.declared.carrier.Verdict.{Verdict}
 use Rattle.modem.specs.declared.carrier.Verdict.the-variants.{Going, Dominant, Not}

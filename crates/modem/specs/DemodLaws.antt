@@ -13,16 +13,16 @@ use lib.Ieee.{Float}
 use lib.ListN.{length, length-append, getD, drop, drop-of-length-le}
 use lib.Seq.{drop-cons}
 use Rattle.numeric.specs.F64.{_≤ᶠ_, if_then_else_, zero64}
-use Rattle.modem.specs.Fold.{fold}
-use Rattle.modem.specs.Tested.{at-number}
-use Rattle.modem.specs.Frame.{withBit, idleBit, dataBit, stopBit, badStop, pushBit, push-idle, push-data, push-stop, bytesOf, heard, after}
-use Rattle.modem.specs.Framing.{AreBytes, held, heard-append, after-append, heard-few, heard-few-any}
+use Rattle.numeric.specs.Fold.{fold}
+use Rattle.numeric.specs.Tested.{at-number}
+use Rattle.framing.specs.Frame.{withBit, idleBit, dataBit, stopBit, badStop, pushBit, push-idle, push-data, push-stop, bytesOf, heard, after}
+use Rattle.framing.specs.Framing.{AreBytes, held, heard-append, after-append, heard-few, heard-few-any}
 use Rattle.modem.specs.Demod.{Step, places, advanced, eventOf, sliced, fedCore, fed, finished, decoded, stepOf, freshDemodulator, Hearing, before, hearing, reported, Tuned}
 use Rattle.modem.specs.Queue.{eventsOf}
 use Rattle.modem.specs.declared.Role.{Role}
-use Rattle.modem.specs.declared.frame.Deframer.{Deframer}
-use Rattle.modem.specs.declared.frame.Heard.the-variants.{Waiting}
-use Rattle.modem.specs.declared.frame.Pushed.{Pushed}
+use Rattle.framing.specs.declared.frame.Deframer.{Deframer}
+use Rattle.framing.specs.declared.frame.Heard.the-variants.{Waiting}
+use Rattle.framing.specs.declared.frame.Pushed.{Pushed}
 use Rattle.modem.specs.declared.demod.Correlator.{Correlator}
 use Rattle.modem.specs.declared.queue.Event.{Event}
 use Rattle.modem.specs.declared.queue.Event.the-variants.{Nothing, CarrierUp, CarrierDown}

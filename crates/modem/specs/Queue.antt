@@ -6,7 +6,7 @@ use mathlib.Core.List.{List, [], _∷_, _++_}
 use lib.Dec.{ltb}
 use lib.ListN.{length, take, drop}
 use Rattle.numeric.specs.F64.{if_then_else_}
-use Rattle.modem.specs.Fold.{fold}
+use Rattle.numeric.specs.Fold.{fold}
 use Rattle.modem.specs.declared.queue.Bytes.{Bytes}
 use Rattle.modem.specs.declared.queue.Drained.{Drained}
 use Rattle.modem.specs.declared.queue.Events.{Events}

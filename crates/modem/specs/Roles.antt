@@ -1,15 +1,12 @@
 -- Rates, roles and tones. Assumes nothing.
 use Prim.Native.Nat.{ℕ}
+use Rattle.refusal.specs.Refusals.{dspRate}
 use mathlib.Core.Path.{_≡_, refl}
 use lib.Ieee.{Float}
 use Rattle.numeric.specs.F64.{_⊘_, whole}
 use Rattle.modem.specs.declared.Role.{Role}
 use Rattle.modem.specs.declared.Role.the-variants.{Originate, Answer}
 use Rattle.modem.specs.declared.TonePair.{TonePair}
-
--- "Rates are whole numbers": the rate inside the modem, in samples a second
-abbrev pub dspRate : ℕ
-dspRate = 8000
 
 -- Bell 103's symbols a second
 abbrev pub baud : ℕ

@@ -6,9 +6,8 @@ use lib.Dec.{ltb}
 use lib.ListN.{length, take, drop}
 use lib.Ieee.{Float}
 use Rattle.numeric.specs.F64.{if_then_else_}
-use Rattle.modem.specs.Roles.{dspRate}
-use Rattle.modem.specs.Refusals.{Reply, given, refused, first, replyOf, rateRefused}
-use Rattle.modem.specs.Resample as resample
+use Rattle.refusal.specs.Refusals.{dspRate, Reply, given, refused, first, replyOf, rateRefused}
+use Rattle.resampling.specs.Resample as resample
 use Rattle.modem.specs.Demod.{hearing, freshDemodulator}
 use Rattle.modem.specs.Samples.{allInRange}
 use Rattle.modem.specs.Queue.{notingAll, readCount, readInto, readRest}

@@ -4,14 +4,14 @@ use mathlib.Core.Path.{_≡_}
 use mathlib.Core.List.{List}
 use lib.ListN.{length, take}
 use lib.Ieee.{Float}
-use Rattle.modem.specs.Resample.{State, state}
-use Rattle.modem.specs.ResampleHeld.{stateOf, Sound}
+use Rattle.resampling.specs.Resample.{State, state}
+use Rattle.resampling.specs.ResampleHeld.{stateOf, Sound}
 use Rattle.modem.specs.Demod.{hearing, Tuned}
 use Rattle.modem.specs.Queue.{queued, noted, BytesHeld, EventsHeld, EventsWait, notingAll, Kept}
 use Rattle.modem.specs.Rx.{Receiver, receiver, demod, resampled}
 use Rattle.modem.specs.declared.demod.Demodulator.{Demodulator}
 use Rattle.modem.specs.declared.queue.Events.{Events}
-use Rattle.modem.specs.declared.resample.Resampler.{Resampler}
+use Rattle.resampling.specs.declared.resample.Resampler.{Resampler}
 use Rattle.modem.specs.declared.rx.Rx.{Rx}
 
 -- what `Rx` is in the definitions

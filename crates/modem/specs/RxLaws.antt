@@ -8,11 +8,10 @@ use mathlib.Core.List.{List, [], _∷_, _++_}
 use native.Mathlib.Omega.{arith}
 use lib.ListN.{length, length-append}
 use lib.Ieee.{Float}
-use Rattle.modem.specs.Roles.{dspRate}
-use Rattle.modem.specs.Refusals.{rateRefused}
-use Rattle.modem.specs.Resample as resample
-use Rattle.modem.specs.ResampleLaws.{ran-few, ran-none, output-few}
-use Rattle.modem.specs.Framing.{held, AreBytes}
+use Rattle.refusal.specs.Refusals.{dspRate, rateRefused}
+use Rattle.resampling.specs.Resample as resample
+use Rattle.resampling.specs.ResampleLaws.{ran-few, ran-none, output-few}
+use Rattle.framing.specs.Framing.{held, AreBytes}
 use Rattle.modem.specs.Demod.{hearing, freshDemodulator, Tuned}
 use Rattle.modem.specs.DemodLaws.{hearing-few, hearing-bytes, hearing-tuned, fresh-tuned}
 use Rattle.modem.specs.Rx.{Demod, Heard, resampled, heardBy, freshDemod}

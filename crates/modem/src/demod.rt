@@ -1,21 +1,21 @@
 // The 8,000 Hz part of the receiver: what one sample makes of its state, and what is heard in it.
-use crate::DSP_RATE;
 use crate::Role;
 use crate::carrier::CarrierDetector;
 use crate::carrier::ToneDominance;
 use crate::carrier::Verdict;
-use crate::frame::Deframer;
-use crate::frame::Heard;
-use crate::frame::Pushed;
 use crate::nco::turn;
 use crate::queue::Event;
 use crate::samples_per_symbol;
 use crate::tones;
+use framing::frame::Deframer;
+use framing::frame::Heard;
+use framing::frame::Pushed;
 use numeric::compare::absolute;
 use numeric::root::root;
 use numeric::sine::TAU;
 use numeric::sine::cosine;
 use numeric::sine::sine;
+use refusal::DSP_RATE;
 ghost use mathlib.Core.Path.{_≡_};
 ghost use Prim.Native.Nat.{_<_};
 ghost use lib.ListN.{set};

@@ -1,25 +1,17 @@
 // Bell 103 modem: roles, rates and tones, and below them the modules.
 ghost use mathlib.Core.Path.{_≡_};
 ghost use Rattle.modem.specs.Roles.{otherRole, tonesOf, samplesPerSymbol};
+use refusal::DSP_RATE;
 
 mod carrier;
 mod demod;
-pub mod frame;
 mod nco;
 mod queue;
-mod refusal;
-pub mod resample;
 pub mod rx;
 mod samples;
 pub mod selftest;
 
 pub use queue::Event;
-pub use refusal::Acceptance;
-pub use refusal::Counted;
-pub use refusal::Refusal;
-
-// Internal rate, in samples a second. Device rates are resampled to it.
-pub const DSP_RATE: u32 = 8000;
 
 // Bell 103 symbol rate, in symbols a second.
 pub const BAUD: u32 = 300;

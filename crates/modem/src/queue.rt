@@ -1,10 +1,10 @@
 // The receiver's two queues, oldest first: bytes heard, and carrier events.
-use crate::frame::Heard;
+use framing::frame::Heard;
 ghost use mathlib.Core.Path.{_≡_};
 ghost use mathlib.Core.List.{[], _∷_, _++_};
 ghost use Prim.Native.Nat.{_+_, _≤_, _<_, min};
 ghost use lib.ListN.{length, take, drop};
-ghost use Rattle.modem.specs.Frame.{bytesOf};
+ghost use Rattle.framing.specs.Frame.{bytesOf};
 ghost use Rattle.modem.specs.Queue.{BytesHeld, BytesWait, Kept, Moved, Drains};
 ghost use Rattle.modem.specs.Queue.{EventsHeld, EventsWait, noted, noting, notingAll, eventsOf, eventOf, Pops};
 

@@ -11,3 +11,6 @@ pub mod Rounding
 pub mod Taps
 pub mod Counts
 pub mod Examples
+pub mod Fold
+pub mod Tested
+pub mod Loops

@@ -1,7 +1,7 @@
 -- `resample::all_calls` meets its contract. The invariant: the calls so far, before what the rest does, are what the whole list does. Assumes nothing.
 use Rattle.ffi.proofs.Calls.{after-start, processed-step, processed-end}
 use native.Mathlib.Omega.{arith}
-use Rattle.modem.specs.ResampleHeld.{stateOf}
+use Rattle.resampling.specs.ResampleHeld.{stateOf}
 use Rattle.ffi.specs.Steps.{Within}
 use Rattle.ffi.specs.Resample.{after, processedFrom}
 use lib.ListN.{length, take, drop}

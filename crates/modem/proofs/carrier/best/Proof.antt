@@ -4,8 +4,8 @@ use Prim.Native.Nat.{_≤_, _-_}
 use mathlib.Core.Path.{_≡_, _∙_, sym, refl}
 use lib.ListN.{drop}
 use Rattle.modem.specs.Carrier.{stronger, narrowOf}
-use Rattle.modem.specs.Fold.{fold}
-use Rattle.modem.proofs.Loops.{fold-step, fold-end}
+use Rattle.numeric.specs.Fold.{fold}
+use Rattle.numeric.specs.Loops.{fold-step, fold-end}
 use Rattle.modem.proofs.carrier.best.Statement.{statement}
 use Rattle.modem.proofs.carrier.best.Tie as tie
 

@@ -4,7 +4,7 @@ use mathlib.Core.List.{List}
 use mathlib.Core.Path.{sym, ap}
 use Rattle.modem.specs.declared.nco.Goertzel.{Goertzel}
 use Rattle.modem.specs.Carrier.{ownEnergy}
-use Rattle.modem.proofs.Loops.{listed}
+use Rattle.numeric.specs.Loops.{listed}
 use Rattle.modem.proofs.carrier.own_energy.Statement.{statement}
 use Rattle.modem.proofs.carrier.own_energy.Tie as tie
 

@@ -3,7 +3,7 @@ use borrow.Author.Needs.{needs}
 use mathlib.Core.List.{map}
 use mathlib.Core.Path.{sym, ap}
 use Rattle.modem.specs.Nco.{goertzelReset}
-use Rattle.modem.proofs.Loops.{listed}
+use Rattle.numeric.specs.Loops.{listed}
 use Rattle.modem.proofs.carrier.reset5.Statement.{statement}
 use Rattle.modem.proofs.carrier.reset5.Tie as tie
 

@@ -4,8 +4,8 @@ use Prim.Native.Nat.{_≤_, _-_}
 use mathlib.Core.Path.{_≡_, _∙_, sym, refl}
 use lib.ListN.{drop}
 use Rattle.numeric.specs.F64.{_⊕_}
-use Rattle.modem.specs.Fold.{fold}
-use Rattle.modem.proofs.Loops.{fold-step, fold-end}
+use Rattle.numeric.specs.Fold.{fold}
+use Rattle.numeric.specs.Loops.{fold-step, fold-end}
 use borrow.Author.Needs.{needs}
 use Rattle.modem.proofs.demod.magnitude.Statement.{statement}
 use Rattle.modem.proofs.demod.magnitude.Tie as tie

@@ -5,7 +5,7 @@ use mathlib.Core.List.{_++_}
 use native.Mathlib.Omega.{arith}
 use lib.ListN.{length, take, drop, length-set}
 use borrow.Author.Needs.{needs}
-use Rattle.modem.proofs.Loops.{over-turn}
+use Rattle.numeric.specs.Loops.{over-turn}
 use Rattle.modem.proofs.queue.copy_out.Statement.{statement}
 use Rattle.modem.proofs.queue.copy_out.Tie as tie
 

@@ -1,5 +1,5 @@
 -- `rx::accept` meets its contract: what passes the checks fits the arrays, and the two steps are the definition's. Assumes nothing.
-use Rattle.modem.specs.ResampleHeld.{stateOf}
+use Rattle.resampling.specs.ResampleHeld.{stateOf}
 use Rattle.modem.specs.Rx.{acceptedBy, heardBy}
 use Rattle.modem.specs.RxHeld.{receiverOf}
 use native.Mathlib.Omega.{arith}

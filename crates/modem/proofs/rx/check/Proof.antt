@@ -1,6 +1,6 @@
 -- `rx::check` meets its contract: the tests are the definition's, in its order. Assumes nothing.
 use borrow.Author.Tests.{lt-ltb, le-ltb, not-true, not-false}
-use Rattle.modem.specs.Refusals.{first}
+use Rattle.refusal.specs.Refusals.{first}
 use Rattle.modem.specs.Rx.{refusedBy}
 use borrow.Author.Needs.{needs}
 use Rattle.modem.proofs.rx.check.Statement.{statement}

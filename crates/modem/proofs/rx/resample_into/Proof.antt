@@ -2,7 +2,7 @@
 use Prim.Native.Nat.{_≤_}
 use lib.ListN.{length, take}
 use Rattle.modem.proofs.Receiving.{room-is, room-few, resamples}
-use Rattle.modem.specs.ResampleHeld.{stateOf}
+use Rattle.resampling.specs.ResampleHeld.{stateOf}
 use mathlib.Core.Path.{_≡_, sym, _∙_, ap}
 use lib.Seq.{length-take-le}
 use native.Mathlib.Omega.{arith}

@@ -6,7 +6,7 @@ use native.Mathlib.Omega.{arith}
 use lib.Seq.{take-append-seam, drop-append-seam, take-length}
 use lib.ListN.{length, take, drop, length-set}
 use borrow.Author.Needs.{needs}
-use Rattle.modem.proofs.Loops.{over-turn}
+use Rattle.numeric.specs.Loops.{over-turn}
 use Rattle.modem.proofs.samples.widen_into.Statement.{statement}
 use Rattle.modem.proofs.samples.widen_into.Tie as tie
 

@@ -14,7 +14,7 @@ use Rattle.modem.specs.declared.demod.Decision.{Decision}
 use Rattle.modem.specs.declared.demod.Demodulator.{Demodulator}
 use Rattle.modem.specs.declared.demod.Latch.{Latch}
 use Rattle.modem.specs.declared.demod.Rings.{Rings}
-use Rattle.modem.specs.declared.frame.Heard.the-variants.{Waiting}
+use Rattle.framing.specs.declared.frame.Heard.the-variants.{Waiting}
 use Rattle.modem.specs.declared.queue.Event.the-variants.{Nothing}
 use Rattle.modem.proofs.demod.Core.step.Statement.{statement}
 use Rattle.modem.proofs.demod.Core.step.Tie as tie

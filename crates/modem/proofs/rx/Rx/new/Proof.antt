@@ -1,6 +1,6 @@
 -- `Rx::new` meets its contract: the test of the rate is the definition's. Assumes nothing.
 use Rattle.modem.specs.Rx.{newOf}
-use Rattle.modem.specs.Refusals.{rateRefused}
+use Rattle.refusal.specs.Refusals.{rateRefused}
 use mathlib.Core.Bool.{not}
 use mathlib.Core.Path.{_≡_, refl, sym, ap, _∙_}
 use borrow.Author.Needs.{needs}

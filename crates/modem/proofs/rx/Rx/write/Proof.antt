@@ -1,6 +1,6 @@
 -- `Rx::write` meets its contract: a write that no check refuses is accepted, and any other changes nothing. Assumes nothing.
 use Prim.Native.Nat.{ℕ}
-use Rattle.modem.specs.Refusals.{replyOf}
+use Rattle.refusal.specs.Refusals.{replyOf}
 use Rattle.modem.specs.Rx.{refusedBy}
 use Rattle.modem.specs.RxHeld.{receiverOf}
 use Rattle.modem.specs.QueueLaws.{queued-length}

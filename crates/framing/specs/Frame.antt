@@ -1,0 +1,128 @@
+-- 8-N-1 framing: "Start space, eight data bits lowest first, stop mark". Assumes nothing.
+use Prim.Native.Nat.{ℕ, _+_, _/_, _%_, _^_, _<_, _≤_, min}
+use mathlib.Core.Path.{_≡_, ap, _∙_}
+use mathlib.Core.List.{List, [], _∷_, _++_}
+use mathlib.Core.Bool.{Bool, true, false}
+use lib.Dec.{ltb, eqb}
+use native.Mathlib.Nat.{one-mul, add-comm}
+use lib.Bits.{bitOr, or-shifted-r}
+use borrow.Author.Tests.{lt-ltb, le-ltb}
+use Rattle.numeric.specs.F64.{if_then_else_}
+use Rattle.framing.specs.declared.frame.Deframer.{Deframer}
+use Rattle.framing.specs.declared.frame.Heard.{Heard}
+use Rattle.framing.specs.declared.frame.Heard.the-variants.{Byte, Waiting}
+use Rattle.framing.specs.declared.frame.Pushed.{Pushed}
+
+-- a bit on the line: mark is binary 1
+abbrev pub mark : Bool
+mark = true
+
+abbrev pub space : Bool
+space = false
+
+-- bit k of a byte, which has the weight 2^k
+abbrev pub bitOf : ℕ → ℕ → Bool
+bitOf b k = eqb (b / 2 ^ k % 2) 1
+
+-- "Start space, eight data bits lowest first, stop mark"
+abbrev pub frameOf : ℕ → List Bool
+frameOf b = space ∷ bitOf b 0 ∷ bitOf b 1 ∷ bitOf b 2 ∷ bitOf b 3 ∷ bitOf b 4 ∷ bitOf b 5 ∷ bitOf b 6 ∷ bitOf b 7 ∷ mark ∷ []
+
+-- ---- the deframer, bit by bit, in any state
+abbrev pub freshDeframer : Deframer
+freshDeframer = record { «in_frame» = false; «bit_count» = 0; acc = 0; errors = 0 }
+
+-- between frames
+abbrev pub Idle : Deframer → Type 0
+Idle d = d .«in_frame» ≡ false
+
+-- this state, and no byte
+abbrev pub waiting : Deframer → Pushed
+waiting d = record { state = d; heard = Waiting }
+
+-- a bit while idle: a space starts a frame, a mark changes nothing
+unfoldable pub idleBit : Deframer → Bool → Pushed
+idleBit d bit =
+    if bit then waiting d
+    else waiting (record { «in_frame» = true; «bit_count» = 0; acc = 0; errors = d .errors })
+
+-- "eight data bits lowest first": data bit number k, where it is a mark, puts 2^k into the byte
+abbrev pub withBit : ℕ → ℕ → Bool → ℕ
+withBit acc k bit = if bit then bitOr acc (2 ^ k) else acc
+
+-- where the byte has nothing there yet, that adds 2^k
+pub bit-adds : (acc k : ℕ) → acc < 2 ^ k → withBit acc k mark ≡ acc + 2 ^ k
+bit-adds acc k h = rw one-mul at (or-shifted-r 1 k acc h) ∙ add-comm (2 ^ k) acc
+
+-- a data bit: one more bit of the byte
+unfoldable pub dataBit : Deframer → Bool → Pushed
+dataBit d bit =
+    waiting
+    (record {
+      «in_frame» = d .«in_frame»;
+      «bit_count» = d .«bit_count» + 1;
+      acc = withBit (d .acc) (d .«bit_count») bit;
+      errors = d .errors;
+    })
+
+abbrev pub mostErrors : ℕ
+mostErrors = 4294967295
+
+-- "The error count holds at 4,294,967,295"
+abbrev pub oneMore : ℕ → ℕ
+oneMore errors = min (errors + 1) mostErrors
+
+-- back to idle, with so many errors
+abbrev pub ended : Deframer → ℕ → Deframer
+ended d e = record { «in_frame» = false; «bit_count» = d .«bit_count»; acc = d .acc; errors = e }
+
+-- "A space in stop position adds one error, returns to idle and starts nothing"
+unfoldable pub badStop : Deframer → Pushed
+badStop d = record { state = ended d (oneMore (d .errors)); heard = Waiting }
+
+-- a bit in stop position: a mark gives the byte
+unfoldable pub stopBit : Deframer → Bool → Pushed
+stopBit d bit =
+    if bit then record { state = ended d (d .errors); heard = Byte (d .acc) }
+    else badStop d
+
+-- a bit in a frame: eight data bits, then the stop bit
+abbrev pub frameBit : Deframer → Bool → Pushed
+frameBit d bit = if ltb (d .«bit_count») 8 then dataBit d bit else stopBit d bit
+
+-- one bit
+unfoldable pub pushBit : Deframer → Bool → Pushed
+pushBit d bit = if d .«in_frame» then frameBit d bit else idleBit d bit
+
+-- `pushBit` in each of the three positions
+pub push-idle : (d : Deframer) (bit : Bool) → d .«in_frame» ≡ false → pushBit d bit ≡ idleBit d bit
+unfolding pushBit
+push-idle d bit p = ap (λ (f : Bool). if f then frameBit d bit else idleBit d bit) p
+
+pub push-data : (d : Deframer) (bit : Bool) → d .«in_frame» ≡ true → d .«bit_count» < 8 → pushBit d bit ≡ dataBit d bit
+unfolding pushBit
+push-data d bit p h =
+    ap (λ (f : Bool). if f then frameBit d bit else idleBit d bit) p
+    ∙ ap (λ (f : Bool). if f then dataBit d bit else stopBit d bit) (lt-ltb _ _ h)
+
+pub push-stop : (d : Deframer) (bit : Bool) → d .«in_frame» ≡ true → 8 ≤ d .«bit_count» → pushBit d bit ≡ stopBit d bit
+unfolding pushBit
+push-stop d bit p h =
+    ap (λ (f : Bool). if f then frameBit d bit else idleBit d bit) p
+    ∙ ap (λ (f : Bool). if f then dataBit d bit else stopBit d bit) (le-ltb _ _ h)
+
+-- ---- a list of bits
+-- the bytes that an answer gives: one, or none
+abbrev pub bytesOf : Heard → List ℕ
+bytesOf (Byte b) = b ∷ []
+bytesOf Waiting = []
+
+-- the bytes that these bits yield, in order
+unfoldable pub heard : Deframer → List Bool → List ℕ
+heard d [] = []
+heard d (bit ∷ bits) = bytesOf (pushBit d bit .heard) ++ heard (pushBit d bit .state) bits
+
+-- the deframer after these bits
+unfoldable pub after : Deframer → List Bool → Deframer
+after d [] = d
+after d (bit ∷ bits) = after (pushBit d bit .state) bits

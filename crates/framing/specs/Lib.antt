@@ -1,0 +1,3 @@
+-- The definitions that the contracts of `framing` cite, and the theorems about them.
+pub mod Frame
+pub mod Framing

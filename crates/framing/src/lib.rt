@@ -1,0 +1,2 @@
+// Start and stop bits around each byte, and back.
+pub mod frame;

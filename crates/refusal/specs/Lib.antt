@@ -1,0 +1,2 @@
+-- Refusals and rates.
+pub mod Refusals

@@ -1,0 +1,81 @@
+-- What the resampler's public functions give, by the tests that lead there. Assumes nothing.
+use Prim.Native.Nat.{ℕ, zero, suc, _+_, _-_, _<_, _≤_}
+use mathlib.Core.Path.{_≡_, refl, sym, ap, _∙_}
+use mathlib.Core.Bool.{Bool, true, false, not, _||_, _&&_, true≢false}
+use mathlib.Core.List.{List, [], _++_}
+use native.Mathlib.Numerals.{unary-clauses}
+use native.Mathlib.Omega.{arith}
+use borrow.Author.Tests.{lt-ltb, le-ltb, ltb-false}
+use lib.Dec.{eqb, ltb}
+use lib.ListN.{length, take, drop, replicate}
+use lib.Seq.{length-take-le, sets-eq}
+use lib.Ieee.{Float}
+use Rattle.numeric.specs.F64.{zero64}
+use Rattle.refusal.specs.Refusals.{Reply, given, refused, first, rateRefused, ratesRefused}
+use Rattle.resampling.specs.Resample.{Filter, Flow, State, Ran, state, flow, fed, tapsOf, filterOf, fresh, zeroWindow, maxOutputLen, tooMany, outcome, refusalOf, ranOver, processed}
+use Rattle.resampling.specs.ResampleHeld.{historyOf, filterIn, InRange, Sound, Run, run, into, fedInto}
+use Rattle.resampling.specs.declared.resample.Resampler.{Resampler}
+use Rattle.resampling.proofs.Ring.{history-same}
+use Rattle.resampling.specs.ResampleLaws.{fed-length}
+
+-- ---- rates that are not refused are in range
+neither : (a b : Bool) → a || b ≡ false → (a ≡ false) × (b ≡ false)
+neither true b e = absurd (true≢false e)
+neither false b e = (refl, e)
+
+pub in-range : (src dst : ℕ) → ratesRefused src dst ≡ false → InRange src dst
+unfolding ratesRefused rateRefused
+in-range src dst e =
+    let r = neither (ltb src 8000 || ltb 48000 src || (ltb dst 8000 || ltb 48000 dst)) _ e .0 in
+    let both = neither (ltb src 8000 || ltb 48000 src) (ltb dst 8000 || ltb 48000 dst) r in
+    let s = neither (ltb src 8000) (ltb 48000 src) (both .0) in
+    let d = neither (ltb dst 8000) (ltb 48000 dst) (both .1) in
+    record { src-low = ltb-false _ _ (s .0); src-high = ltb-false _ _ (s .1); dst-low = ltb-false _ _ (d .0); dst-high = ltb-false _ _ (d .1) }
+
+-- ---- a cleared state
+pub fresh-is : (src dst n : ℕ) (taps : List Float) → n ≤ 373 → length taps ≡ 373 → take n taps ≡ tapsOf src dst
+    → state src dst (flow (historyOf n 0 (replicate 373 zero64)) zeroWindow zero64 zero64) ≡ fresh src dst
+unfolding fresh
+fresh-is src dst n taps h l e =
+    let k : length (tapsOf src dst) ≡ n = ap length (sym e) ∙ length-take-le n taps (omega arith) in
+    rw (history-same zero64 n 373 h, k)
+
+-- ---- the filter that a state holds
+pub filter-is : (r : Resampler) → Sound r → filterIn (r .«n_taps») (r .taps) (r .decimating) (r .step) ≡ filterOf (r .«src_rate») (r .«dst_rate»)
+unfolding filterOf
+filter-is r p = rw (p .taps, p .decimating, p .step)
+
+-- ---- `process`
+-- a whole input's samples stand at the front of the output
+whole-run : (f : Filter) (xs : List Float) (s : Flow) (o : List Float)
+    → let r = fed f (length o) xs s in fedInto f xs (run s o 0) ≡ run (r .flow) (r .out ++ drop (length (r .out)) o) (length (r .out))
+unfolding fedInto
+whole-run f xs s o = rw (same (length o)) (laid (fed f (length o) xs s) (fed-length f (length o) xs s))
+  where
+    same : (n : ℕ) → n - 0 ≡ n
+    same n = omega arith
+
+    laid : (r : Ran) → length (r .out) ≤ length o → into o 0 r ≡ run (r .flow) (r .out ++ drop (length (r .out)) o) (length (r .out))
+    laid r h =
+        let z : 0 + length (r .out) ≡ length (r .out) = omega arith in
+        rw (sets-eq (r .out) o 0 (omega arith), z)
+
+module _ (s : State) (xs o : List Float) where
+  pub too-long : 2048 < length xs → outcome (refused 3) s o ≡ processed s xs o
+  unfolding processed refusalOf tooMany first
+  too-long h = rw (lt-ltb _ _ h)
+
+  module _ (short : length xs ≤ 2048) (b : ℕ) (is : b ≡ maxOutputLen (s .src) (s .dst) (length xs)) where
+    pub no-room : length o < b → outcome (refused 5) s o ≡ processed s xs o
+    unfolding processed refusalOf tooMany first
+    no-room h = rw (le-ltb _ _ short, ← is, lt-ltb _ _ h)
+
+    module _ (room : b ≤ length o) where
+      pub copied : (o′ : List Float) → eqb (s .src) (s .dst) ≡ true → o′ ≡ xs ++ drop (length xs) o → outcome (given (length xs)) s o′ ≡ processed s xs o
+      unfolding processed refusalOf tooMany first ranOver
+      copied o′ e eo = rw (le-ltb _ _ short, ← is, le-ltb _ _ room, e, eo)
+
+      pub went : (t : Run) → eqb (s .src) (s .dst) ≡ false → t ≡ fedInto (filterOf (s .src) (s .dst)) xs (run (s .flow) o 0)
+          → outcome (given (t .at)) (state (s .src) (s .dst) (t .flow)) (t .out) ≡ processed s xs o
+      unfolding processed refusalOf tooMany first ranOver
+      went t e et = rw (le-ltb _ _ short, ← is, le-ltb _ _ room, e, et, whole-run (filterOf (s .src) (s .dst)) xs (s .flow) o)

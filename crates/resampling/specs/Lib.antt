@@ -1,0 +1,5 @@
+-- The definitions that the contracts of `resampling` cite, and the theorems about them.
+pub mod Design
+pub mod Resample
+pub mod ResampleLaws
+pub mod ResampleHeld
