@@ -1,6 +1,6 @@
 // With the feature `port`: links the port's static library, which
 // `rt staticlib ffi` writes to ../target/staticlib/libffi.a, or the one that
-// MORKHETTA_LIB names. Sets `receiver`, `state` and `sender` where the other
+// MORKHETTA_LIB names. Sets `receiver`, `state`, `sender` and `board` where the other
 // side exports it.
 
 use std::path::{Path, PathBuf};
@@ -12,6 +12,7 @@ fn main() {
         ("receiver", "CARGO_FEATURE_PORT_RECEIVER"),
         ("state", "CARGO_FEATURE_PORT_STATE"),
         ("sender", "CARGO_FEATURE_PORT_SENDER"),
+        ("board", "CARGO_FEATURE_PORT_BOARD"),
     ] {
         println!("cargo:rustc-check-cfg=cfg({cfg})");
         if !port || std::env::var_os(feature).is_some() {

@@ -28,7 +28,7 @@ pub fn rate_of(index: usize, random: &mut Random) -> u32 {
 
 /// How a recording is cut into calls.
 #[derive(Clone, Copy)]
-enum Cut {
+pub enum Cut {
     Even(u32),
     Random,
     /// With empty calls, and once in a while one that is too long.
@@ -37,7 +37,7 @@ enum Cut {
 
 impl Cut {
     /// The cut of case `index`: each of the even ones in turn, then the others.
-    fn of(index: usize) -> Cut {
+    pub fn of(index: usize) -> Cut {
         match index % (BLOCKS.len() + 2) {
             5 => Cut::Random,
             6 => Cut::Rough,
@@ -59,7 +59,7 @@ impl Cut {
         }
     }
 
-    fn lengths(self, random: &mut Random, total: usize, limit: u32) -> Vec<u32> {
+    pub fn lengths(self, random: &mut Random, total: usize, limit: u32) -> Vec<u32> {
         let mut lengths = Vec::new();
         let mut left = total;
         while left > 0 {

@@ -58,7 +58,7 @@ pub fn run(options: &Options) -> ExitCode {
         println!("    {reason}: {lines} lines");
     }
     let start = Instant::now();
-    let parts: [(&str, Part); 7] = [
+    let parts: [(&str, Part); 8] = [
         ("refused rates", refused_rates),
         ("fresh receivers at every rate", fresh_receivers),
         ("max_output_len at every rate", output_lengths),
@@ -66,6 +66,7 @@ pub fn run(options: &Options) -> ExitCode {
         ("sender", sender_cases),
         ("receiver", receiver_cases),
         ("from sender to receiver", loops),
+        ("board", board_cases),
     ];
     for (name, part) in parts {
         if options.only.is_some() && name != "receiver" {
@@ -252,6 +253,30 @@ fn receiver_cases(options: &Options) -> Result<String, Found> {
     Ok(format!("{cases} cases, 0 differences"))
 }
 
+/// The board against the original's receiver and an independent judge.
+#[cfg(board)]
+fn board_cases(options: &Options) -> Result<String, Found> {
+    let cases = options.cases / 4;
+    let mut seen = crate::boards::Seen::default();
+    for index in 0..cases {
+        let mut random = Random::of_case(options.seed ^ 0x424F, index as u64);
+        let case = crate::boards::BoardCase::random(index, &mut random);
+        if let Some(words) = case.differs(&mut seen) {
+            return Err(plain(format!("case {index} of seed {}: {words}", options.seed)));
+        }
+    }
+    println!(
+        "    {} writes, {} refused; {} bytes; lines answered 0, 11 to 20, 34: {:?}",
+        seen.writes, seen.refused, seen.bytes, seen.answers
+    );
+    Ok(format!("{cases} cases, compared after {} lists of writes, 0 differences", seen.stops))
+}
+
+#[cfg(not(board))]
+fn board_cases(_: &Options) -> Result<String, Found> {
+    Ok("not compared, as the port exports none".into())
+}
+
 fn check_receiver(case: &ReceiverCase, name: &str) -> Result<Heard, Found> {
     let heard = case.run(&ORIGINAL).expect("the original hears");
     match case.run(&PORT).and_then(|port| of_heard(&heard, &port)) {
@@ -303,9 +328,15 @@ fn smallest<C: Case>(case: &C, words: String, write: fn(&C, &mut Text)) -> Strin
     let (small, words) = shrink(case, words);
     let mut text = Text::new();
     write(&small, &mut text);
-    let lines: Vec<&str> = text.0.lines().collect();
+    let (calls, answers) = (shown(&text.calls), shown(&text.answers));
+    format!("the smallest one found: {words}\n{calls}\nthe original's answers:\n{answers}")
+}
+
+/// The first lines of a text.
+fn shown(text: &str) -> String {
+    let lines: Vec<&str> = text.lines().collect();
     let shown = lines.len().min(60);
-    let mut told = format!("the smallest one found: {words}\n{}", lines[..shown].join("\n"));
+    let mut told = lines[..shown].join("\n");
     if shown < lines.len() {
         told += &format!("\n.. and {} lines more", lines.len() - shown);
     }

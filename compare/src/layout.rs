@@ -19,6 +19,17 @@ pub const CALL: usize = 3;
 // refusal, bytes read, events drained, carrier (0 or 1), framing errors.
 pub const HEARD: usize = 5;
 
+// A board's answers are four numbers for each write: 0 or the number of the
+// refusal, bytes heard, lines ended, the last line's answer.
+pub const JUDGED: usize = 4;
+
+/// A board has a count for each line answer: 0, 11 to 20, 34.
+pub const COUNTS: usize = 12;
+
+/// What a board shows, 1, water minute and the level's sixteen bits or three
+/// times 0, and behind them its counts.
+pub const SHOWN: usize = 3 + COUNTS;
+
 // A sender's script has two numbers for each step: one of the kinds below, and
 // its number.
 pub const STEP: usize = 2;

@@ -3,14 +3,19 @@
 //!     compare [--cases N] [--seed S] [--only K] [--quick]
 //!     speed
 //!     vectors FOLDER
+//!     hear FILE RATE ROLE FOLDER
 //!     changes
 
+#[cfg(board)]
+mod boards;
 mod cases;
 mod clock;
 mod compare;
 mod difference;
 #[cfg(test)]
 mod facts;
+mod hear;
+mod judge;
 mod layout;
 mod oracle;
 mod port;
@@ -34,6 +39,7 @@ usage: compare [--cases N] [--seed S]   the same calls to both sides
                [--quick]                no search for a smaller case
        speed                            the time of both sides
        vectors FOLDER                   the original's answers as text
+       hear FILE RATE ROLE FOLDER       likewise, to a recording of f32 samples
        changes                          what the build changed in the original";
 
 fn main() -> ExitCode {
@@ -46,6 +52,10 @@ fn main() -> ExitCode {
         },
         ["speed"] => speed::run(),
         ["vectors", folder] => vectors::run(folder),
+        ["hear", file, rate, role, folder] => match (rate.parse(), role.parse()) {
+            (Ok(rate), Ok(role)) => hear::run(file, rate, role, folder),
+            _ => usage(),
+        },
         ["changes"] => {
             print!("{}", original::CHANGES);
             ExitCode::SUCCESS

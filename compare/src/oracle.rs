@@ -27,7 +27,7 @@ const MOST_EVENTS: u32 = 64;
 const MOST_WAITING_BITS: usize = 4_096;
 const MOST_BITS_ASKED: u32 = 1_048_576;
 
-fn rate_fits(rate: u32) -> bool {
+pub fn rate_fits(rate: u32) -> bool {
     (SLOWEST..=FASTEST).contains(&rate)
 }
 
@@ -36,7 +36,7 @@ fn rates_fit(src: u32, dst: u32) -> bool {
 }
 
 /// The `len` elements from `at` on, or those that are left.
-fn part<T>(all: &[T], at: usize, len: u32) -> &[T] {
+pub fn part<T>(all: &[T], at: usize, len: u32) -> &[T] {
     let rest = &all[at.min(all.len())..];
     &rest[..rest.len().min(len as usize)]
 }
@@ -115,18 +115,18 @@ pub fn config(rate: u32, role: u32) -> Config {
 }
 
 /// A receiver of the original with document 01's refusals before it.
-struct Receiver {
-    rx: Rx,
+pub struct Receiver {
+    pub rx: Rx,
     accepted: u64,
 }
 
 impl Receiver {
-    fn new(rate: u32, role: u32) -> Receiver {
+    pub fn new(rate: u32, role: u32) -> Receiver {
         Receiver { rx: Rx::new(config(rate, role)), accepted: 0 }
     }
 
     /// 0, or the number of the refusal.
-    fn write(&mut self, samples: &[f32]) -> u64 {
+    pub fn write(&mut self, samples: &[f32]) -> u64 {
         if samples.len() > MOST_SAMPLES {
             return 3;
         }

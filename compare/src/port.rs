@@ -60,6 +60,21 @@ extern "C" {
         state_len: usize,
     ) -> u32;
 
+    #[cfg(board)]
+    fn morkhetta_listen(
+        rate: u32,
+        station: u16,
+        role: u32,
+        samples: *const f32,
+        samples_len: usize,
+        lengths: *const u32,
+        lengths_len: usize,
+        answers: *mut u64,
+        answers_len: usize,
+        shown: *mut u64,
+        shown_len: usize,
+    ) -> usize;
+
     #[cfg(sender)]
     fn morkhetta_send(
         rate: u32,
@@ -186,6 +201,33 @@ pub fn send(
             output.len(),
             answers.as_mut_ptr(),
             answers.len(),
+        )
+    }
+}
+
+#[cfg(board)]
+pub fn listen(
+    rate: u32,
+    station: u16,
+    role: u32,
+    samples: &[f32],
+    lengths: &[u32],
+    answers: &mut [u64],
+    shown: &mut [u64],
+) -> usize {
+    unsafe {
+        morkhetta_listen(
+            rate,
+            station,
+            role,
+            samples.as_ptr(),
+            samples.len(),
+            lengths.as_ptr(),
+            lengths.len(),
+            answers.as_mut_ptr(),
+            answers.len(),
+            shown.as_mut_ptr(),
+            shown.len(),
         )
     }
 }

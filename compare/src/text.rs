@@ -1,53 +1,45 @@
-//! Cases and the original's answers as lines of text, for a program that
-//! replays them from its standard input, and for readers.
+//! Cases and the original's answers as two texts: the calls, which a program
+//! reads from its standard input (`crates/replay`), and what it must print.
 //!
-//! A line is a letter and its fields, each after one blank; at most 300
-//! characters. Counts, rates and answers are decimal; a byte is two
-//! hexadecimal digits, an f32 the eight of its bits, an f64 the sixteen of its
-//! bits, all uppercase. A line that begins with # is for readers alone.
+//! A line of the calls is a letter and its fields, each after one blank; at
+//! most 320 characters. Counts and rates are decimal; a byte is two hexadecimal
+//! digits, an f32 the eight of its bits, an f64 the sixteen of its bits, all
+//! lowercase. A line that begins with # is for readers, and stands in both.
 //!
-//! Receiver. There is one block of samples, empty at first.
+//! There is one block of samples, empty at first and behind each call.
+//!
+//!     S x x ..           these samples join the block
+//!     N x n              n times the sample x joins the block
+//!     B x h              f32 samples x and -x join the block, four for each
+//!                        of the digits h, highest bit first: 1 is x, 0 is -x
+//!
+//! Receiver:
 //!
 //!     R rate role        a fresh receiver; role 0 originates, 1 answers
-//!     S x x ..           these f32 samples join the block, 32 at most
-//!     N x n              n times the sample x joins the block
-//!     B x h              samples x and -x join the block, four for each of
-//!                        the digits h (64 at most), highest bit first: 1 is
-//!                        x, 0 is -x
-//!     W a                the block is written, then empty; a is 0 or the
-//!                        number of the refusal
-//!     Y n b b ..         a read into n places gives exactly these bytes. More
-//!                        than 64 stand on several lines, all but the last
-//!                        with n as large as their number
-//!     E n e e ..         n events are drained, or as many as there are: 1 is
-//!                        up, 0 is down
-//!     C c n              carrier (0 or 1) and framing errors
-//!     F i x x ..         the state's places from i on, as f64, 16 at most
-//!                        (`layout::STATE` names them)
+//!     W b e              the block is written; then at most b bytes are read
+//!                        and e events drained
 //!
-//! Resampler. There is one block of input, empty at first.
+//! Resampler:
 //!
 //!     Z src dst          a fresh resampler
-//!     D x x ..           these f64 samples join the block, 16 at most
-//!     H x n              n times the f64 sample x joins the block
-//!     P room a           the block is processed into an output of `room`
-//!                        places, then empty; a is the count written, or minus
-//!                        the number of the refusal
-//!     O x x ..           the next samples written, 16 at most
-//!     M src dst n a      max_output_len of n
+//!     P room             the block is processed into an output of `room`
+//!                        places
+//!     M src dst n        max_output_len of n
 //!
-//! Sender. There is one block of bytes, empty at first.
+//! Sender (not recorded yet). There is one block of bytes, empty at first.
 //!
 //!     T rate role        a fresh sender
-//!     A x a              the amplitude is set to the f32 x; a is 0 or minus
-//!                        the number of the refusal, as in the lines below
+//!     A x                the amplitude is set to the f32 x
 //!     U b b ..           these bytes join the block, 64 at most
-//!     Q a                the block is written, then empty
-//!     I n a              n bits of idle mark are written
-//!     G n a              n samples are read
-//!     V x x ..           the next samples read, as f32, 32 at most
-//!     L n a              samples_for_bits of n
-//!     K a                1 if bits wait, else 0
+//!     Q                  the block is written, then empty
+//!     I n                n bits of idle mark are written
+//!     G n                n samples are read
+//!     L n                samples_for_bits of n
+//!     K                  whether bits wait
+//!
+//! What is printed has one line for each call, with 0 or the number of the
+//! refusal, or a count; and behind a resampler's call or a sender's read one
+//! line for each sample's bits. Of a NaN only that it is one.
 
 use std::fmt::Write;
 
@@ -58,77 +50,78 @@ use crate::layout::*;
 /// values from which on they are written as bits.
 const COUNTED: usize = 6;
 const AS_BITS: usize = 16;
+/// The most samples on a line of bits.
+const ON_A_LINE: usize = 1_024;
 
-/// Some of the state's places: the first, and the one behind the last.
-pub type Places = (usize, usize);
+/// Words for readers before a call: its number, and the words.
+pub type Remark = (usize, String);
 
-pub struct Text(pub String);
+pub struct Text {
+    pub calls: String,
+    pub answers: String,
+}
 
 impl Text {
     pub fn new() -> Text {
-        Text(String::new())
+        Text { calls: String::new(), answers: String::new() }
     }
 
-    pub fn line(&mut self, words: &str) {
-        self.0.push_str(words);
-        self.0.push('\n');
+    fn call(&mut self, words: &str) {
+        self.calls.push_str(words);
+        self.calls.push('\n');
+    }
+
+    fn answer(&mut self, words: &str) {
+        self.answers.push_str(words);
+        self.answers.push('\n');
+    }
+
+    pub fn remark(&mut self, words: &str) {
+        self.call(&format!("# {words}"));
+        self.answer(&format!("# {words}"));
     }
 
     /// Fields on as many lines as are needed.
     fn fields(&mut self, letter: &str, fields: &[String], most: usize) {
         for some in fields.chunks(most) {
-            self.line(&format!("{letter} {}", some.join(" ")));
+            self.call(&format!("{letter} {}", some.join(" ")));
         }
     }
 
-    /// A receiver's calls and what they answered. `places` says which of the
-    /// state's places are written at the end.
-    pub fn receiver(&mut self, case: &ReceiverCase, heard: &Heard, places: &[Places]) {
-        self.line(&format!("R {} {}", case.rate, case.role));
+    /// A receiver's calls and what they answered. A case has one call at
+    /// least, so that a refused rate is seen by none that ran.
+    pub fn receiver(&mut self, case: &ReceiverCase, heard: &Heard, remarks: &[Remark]) {
+        let refused = u8::from(heard.calls == 0);
+        self.call(&format!("R {} {}", case.rate, case.role));
+        self.answer(&format!("receiver {} {}: {refused}", case.rate, case.role));
         let (mut sample, mut byte, mut event) = (0, 0, 0);
-        let answers = heard.answers.chunks_exact(HEARD);
-        for (call, answer) in case.script.chunks_exact(CALL).zip(answers) {
+        let answers = heard.answers.chunks_exact(HEARD).take(heard.calls);
+        for (i, (call, answer)) in case.script.chunks_exact(CALL).zip(answers).enumerate() {
+            for (_, words) in remarks.iter().filter(|(at, _)| *at == i) {
+                self.remark(words);
+            }
             let end = case.samples.len().min(sample + call[0] as usize);
             self.samples(&case.samples[sample..end]);
+            self.call(&format!("W {} {}", call[1], call[2]));
+            let mut line = format!(
+                "write {}: {}, carrier {}, errors {}, bytes",
+                end - sample,
+                answer[0],
+                answer[3],
+                answer[4]
+            );
             sample = end;
-            self.line(&format!("W {}", answer[0]));
-            if call[1] > 0 {
-                let end = byte + answer[1] as usize;
-                self.read(call[1], &heard.bytes[byte..end]);
-                byte = end;
+            for b in &heard.bytes[byte..byte + answer[1] as usize] {
+                let _ = write!(line, " {b:02x}");
             }
-            if call[2] > 0 {
-                let end = event + answer[2] as usize;
-                let mut line = format!("E {}", call[2]);
-                for e in &heard.events[event..end] {
-                    let _ = write!(line, " {e}");
-                }
-                self.line(&line);
-                event = end;
+            byte += answer[1] as usize;
+            line += ", events";
+            for &e in &heard.events[event..event + answer[2] as usize] {
+                line += if e == 1 { " up" } else { " down" };
             }
-            self.line(&format!("C {} {}", answer[3], answer[4]));
+            event += answer[2] as usize;
+            self.answer(&line);
         }
-        for &(from, to) in places {
-            for first in (from..to).step_by(16) {
-                let some = &heard.state[first..to.min(first + 16)];
-                self.fields(&format!("F {first}"), &hex64(some), 16);
-            }
-        }
-    }
-
-    fn read(&mut self, want: u32, bytes: &[u8]) {
-        let mut left = want;
-        let mut rest = bytes;
-        while rest.len() > 64 {
-            self.line(&format!("Y 64 {}", hex8(&rest[..64]).join(" ")));
-            rest = &rest[64..];
-            left -= 64;
-        }
-        let mut line = format!("Y {left}");
-        for b in hex8(rest) {
-            let _ = write!(line, " {b}");
-        }
-        self.line(&line);
     }
 
     fn samples(&mut self, samples: &[f32]) {
@@ -137,12 +130,12 @@ impl Text {
         while !rest.is_empty() {
             let n = match form_of(rest) {
                 Form::Counted(n) => {
-                    self.line(&format!("N {:08X} {n}", rest[0]));
+                    self.call(&format!("N {:08x} {n}", rest[0]));
                     n
                 }
                 Form::Bits(n) => {
                     let size = rest[0] & SIZE;
-                    self.line(&format!("B {size:08X} {}", digits(&rest[..n], size)));
+                    self.call(&format!("B {size:08x} {}", digits(&rest[..n], size)));
                     n
                 }
                 Form::Whole => {
@@ -150,7 +143,7 @@ impl Text {
                     let most = rest.len().min(32);
                     let other = |&i: &usize| !matches!(form_of(&rest[i..]), Form::Whole);
                     let n = (1..most).find(other).unwrap_or(most);
-                    let some: Vec<String> = rest[..n].iter().map(|x| format!("{x:08X}")).collect();
+                    let some: Vec<String> = rest[..n].iter().map(|x| format!("{x:08x}")).collect();
                     self.fields("S", &some, 32);
                     n
                 }
@@ -159,79 +152,120 @@ impl Text {
         }
     }
 
+    /// A resampler's calls and what they answered. A case has one call at
+    /// least, as above.
     pub fn resampler(&mut self, case: &ResamplerCase, resampled: &Resampled) {
-        self.line(&format!("Z {} {}", case.src, case.dst));
+        let refused = u8::from(resampled.calls == 0);
+        self.call(&format!("Z {} {}", case.src, case.dst));
+        self.answer(&format!("resampler {} {}: {refused}", case.src, case.dst));
         let (mut read, mut written) = (0, 0);
         let answers = resampled.answers.chunks_exact(TOLD).take(resampled.calls);
         for (&len, told) in case.lengths.iter().zip(answers) {
             let end = case.input.len().min(read + len as usize);
             self.input(&case.input[read..end]);
+            let room = case.room - written;
+            self.call(&format!("P {room}"));
+            self.answer(&format!("process {}, room {room}: {}", end - read, counted(told)));
             read = end;
-            self.line(&format!("P {} {}", case.room - written, signed(told)));
             let end = written + told[1] as usize;
-            self.fields("O", &hex64(&resampled.output[written..end]), 16);
+            for y in &resampled.output[written..end] {
+                self.answer(&bits_of(*y));
+            }
             written = end;
         }
+    }
+
+    /// The bound on an output's length; `told` is empty where the rates are
+    /// refused, and that is no case here.
+    pub fn longest(&mut self, src: u32, dst: u32, len: u32, told: &[u64]) {
+        self.call(&format!("M {src} {dst} {len}"));
+        self.answer(&format!("longest {src} {dst} {len}: {}", counted(told)));
     }
 
     fn input(&mut self, input: &[f64]) {
         let bits: Vec<u64> = input.iter().map(|x| x.to_bits()).collect();
         for equal in bits.chunk_by(|a, b| a == b) {
             if equal.len() >= COUNTED {
-                self.line(&format!("H {:016X} {}", equal[0], equal.len()));
+                self.call(&format!("N {:016x} {}", equal[0], equal.len()));
             } else {
-                self.joined("D", equal);
+                self.joined(equal);
             }
         }
     }
 
-    /// Joins fields to the last line, if it has the same letter and room.
-    fn joined(&mut self, letter: &str, fields: &[u64]) {
+    /// Joins samples to the last line, if it has samples and room.
+    fn joined(&mut self, fields: &[u64]) {
         for field in fields {
-            let last = self.0.lines().last().unwrap_or("");
-            if last.starts_with(letter) && last.len() < 16 * 17 {
-                self.0.pop();
-                let _ = writeln!(self.0, " {field:016X}");
+            let last = self.calls.lines().last().unwrap_or("");
+            if last.starts_with('S') && last.len() < 16 * 17 {
+                self.calls.pop();
+                let _ = writeln!(self.calls, " {field:016x}");
             } else {
-                self.line(&format!("{letter} {field:016X}"));
+                self.call(&format!("S {field:016x}"));
             }
         }
     }
 
     pub fn sender(&mut self, case: &SenderCase, sent: &Sent) {
-        self.line(&format!("T {} {}", case.rate, case.role));
+        let refused = u8::from(sent.steps == 0);
+        self.call(&format!("T {} {}", case.rate, case.role));
+        self.answer(&format!("sender {} {}: {refused}", case.rate, case.role));
         let (mut byte, mut sample) = (0, 0);
         for (step, told) in case.script.chunks_exact(STEP).zip(sent.answers.chunks_exact(TOLD)) {
-            let (n, answer) = (step[1], signed(told));
+            let (n, answer) = (step[1], counted(told));
             match step[0] {
                 WRITE => {
                     let end = case.data.len().min(byte + n as usize);
                     self.fields("U", &hex8(&case.data[byte..end]), 64);
                     byte = end;
-                    self.line(&format!("Q {answer}"));
+                    self.call("Q");
+                    self.answer(&format!("send: {answer}"));
                 }
-                IDLE_MARK => self.line(&format!("I {n} {answer}")),
+                IDLE_MARK => {
+                    self.call(&format!("I {n}"));
+                    self.answer(&format!("idle mark {n}: {answer}"));
+                }
                 READ => {
-                    self.line(&format!("G {n} {answer}"));
+                    self.call(&format!("G {n}"));
+                    self.answer(&format!("read {n}: {answer}"));
                     let end = case.room.min(sample + n as usize);
                     if told[0] == 0 {
-                        self.fields("V", &hex32(&sent.output[sample..end]), 32);
+                        for y in &sent.output[sample..end] {
+                            self.answer(&format!("{:08x}", y.to_bits()));
+                        }
                     }
                     sample = end;
                 }
-                AMPLITUDE => self.line(&format!("A {n:08X} {answer}")),
-                SAMPLES_FOR_BITS => self.line(&format!("L {n} {answer}")),
-                _ => self.line(&format!("K {answer}")),
+                AMPLITUDE => {
+                    self.call(&format!("A {n:08x}"));
+                    self.answer(&format!("amplitude: {answer}"));
+                }
+                SAMPLES_FOR_BITS => {
+                    self.call(&format!("L {n}"));
+                    self.answer(&format!("samples for {n} bits: {answer}"));
+                }
+                _ => {
+                    self.call("K");
+                    self.answer(&format!("bits wait: {answer}"));
+                }
             }
         }
     }
 }
 
-/// An answer of two numbers as one: the count, or minus the refusal's number.
-pub fn signed(told: &[u64]) -> String {
+/// An answer of two numbers: the count, or the number of the refusal.
+fn counted(told: &[u64]) -> String {
     match told[0] {
         0 => told[1].to_string(),
-        number => format!("-{number}"),
+        number => format!("refused {number}"),
+    }
+}
+
+fn bits_of(y: f64) -> String {
+    if y.is_nan() {
+        "nan".into()
+    } else {
+        format!("{:016x}", y.to_bits())
     }
 }
 
@@ -249,7 +283,8 @@ enum Form {
 
 fn form_of(rest: &[u32]) -> Form {
     let equal = equal_from(rest);
-    let of_two_values = rest.iter().take(256).take_while(|&&x| x & SIZE == rest[0] & SIZE).count();
+    let of_two_values =
+        rest.iter().take(ON_A_LINE).take_while(|&&x| x & SIZE == rest[0] & SIZE).count();
     if equal >= 64 || (equal >= COUNTED && of_two_values < AS_BITS) {
         return Form::Counted(equal);
     }
@@ -275,19 +310,11 @@ fn digits(samples: &[u32], size: u32) -> String {
         .chunks_exact(4)
         .map(|four| {
             let digit = four.iter().fold(0, |d, &x| 2 * d + u32::from(x == size));
-            format!("{digit:X}")
+            format!("{digit:x}")
         })
         .collect()
 }
 
 fn hex8(list: &[u8]) -> Vec<String> {
-    list.iter().map(|x| format!("{x:02X}")).collect()
-}
-
-fn hex32(list: &[f32]) -> Vec<String> {
-    list.iter().map(|x| format!("{:08X}", x.to_bits())).collect()
-}
-
-fn hex64(list: &[f64]) -> Vec<String> {
-    list.iter().map(|x| format!("{:016X}", x.to_bits())).collect()
+    list.iter().map(|x| format!("{x:02x}")).collect()
 }

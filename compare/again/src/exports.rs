@@ -2,6 +2,7 @@
 
 use core::slice::{from_raw_parts, from_raw_parts_mut};
 
+use crate::judge;
 use crate::oracle;
 
 #[no_mangle]
@@ -110,5 +111,30 @@ unsafe extern "C" fn morkhetta_send(
         from_raw_parts(data, data_len),
         from_raw_parts_mut(output, output_len),
         from_raw_parts_mut(answers, answers_len),
+    )
+}
+
+#[no_mangle]
+unsafe extern "C" fn morkhetta_listen(
+    rate: u32,
+    station: u16,
+    role: u32,
+    samples: *const f32,
+    samples_len: usize,
+    lengths: *const u32,
+    lengths_len: usize,
+    answers: *mut u64,
+    answers_len: usize,
+    shown: *mut u64,
+    shown_len: usize,
+) -> usize {
+    judge::listen(
+        rate,
+        station,
+        role,
+        from_raw_parts(samples, samples_len),
+        from_raw_parts(lengths, lengths_len),
+        from_raw_parts_mut(answers, answers_len),
+        from_raw_parts_mut(shown, shown_len),
     )
 }

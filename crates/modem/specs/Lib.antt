@@ -12,3 +12,4 @@ pub mod DemodLaws
 pub mod Rx
 pub mod RxHeld
 pub mod RxLaws
+pub mod RxCalls

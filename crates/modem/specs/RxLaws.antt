@@ -79,7 +79,7 @@ fresh-listens rate role e = record { from = ltb-false rate dspRate (first-off (l
     first-off true b e = e
     first-off false b e = refl
 
-fresh-idle : (rate : ℕ) (role : Role) → held (freshDemod rate role .inner .core .deframer) ≡ 0
+pub fresh-idle : (rate : ℕ) (role : Role) → held (freshDemod rate role .inner .core .deframer) ≡ 0
 unfolding freshDemod freshDemodulator
 fresh-idle rate role = refl
 

@@ -4,7 +4,7 @@ use mathlib.Core.Path.{_≡_, refl}
 use mathlib.Core.Bool.{Bool, true, false, not, _&&_, _||_}
 use lib.Dec.{ltb, eqb}
 use Rattle.refusal.specs.declared.Refusal.{Refusal}
-use Rattle.refusal.specs.declared.Refusal.the-variants.{Rate, TooManySamples, BadSample, OutputTooShort, OutOfSamples, BytesWait}
+use Rattle.refusal.specs.declared.Refusal.the-variants.{Rate, Station, TooManySamples, BadSample, OutputTooShort, OutOfSamples, BytesWait}
 use Rattle.refusal.specs.declared.Acceptance.{Acceptance}
 use Rattle.refusal.specs.declared.Acceptance.the-variants as acceptance
 use Rattle.refusal.specs.declared.Counted.{Counted}
@@ -31,6 +31,7 @@ first-no n rest = refl
 -- the number of each case
 abbrev pub numberOf : Refusal → ℕ
 numberOf Rate = 1
+numberOf Station = 2
 numberOf TooManySamples = 3
 numberOf BadSample = 4
 numberOf OutputTooShort = 5

@@ -12,6 +12,7 @@ pub const HIGHEST_RATE: u32 = 48000;
 // Why a call is refused.
 pub enum Refusal {
     Rate,
+    Station,
     TooManySamples,
     BadSample,
     OutputTooShort,
@@ -26,6 +27,7 @@ impl Refusal {
     {
         match self {
             Refusal::Rate => 1,
+            Refusal::Station => 2,
             Refusal::TooManySamples => 3,
             Refusal::BadSample => 4,
             Refusal::OutputTooShort => 5,

@@ -1,0 +1,5 @@
+-- Laws that the proofs of `board` cite.
+pub mod Parts
+pub mod Writing
+pub mod Running
+pub mod Listening

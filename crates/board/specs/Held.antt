@@ -1,0 +1,78 @@
+-- How the code's `Board` holds what specs/Plain.antt speaks of, the invariant of its states, and what each call does. Assumes nothing.
+use Prim.Native.Nat.{ℕ, _+_, _*_, _≤_}
+use mathlib.Core.Path.{_≡_}
+use mathlib.Core.List.{List, []}
+use lib.Dec.{eqb}
+use lib.ListN.{length}
+use lib.Ieee.{Float}
+use Rattle.numeric.specs.F64.{if_then_else_}
+use Rattle.refusal.specs.Refusals.{numberOf, acceptanceOf}
+use Rattle.framing.specs.Framing as framing
+use Rattle.modem.specs.RxHeld.{receiverOf, RxSound}
+use Rattle.modem.specs.declared.Role.{Role}
+use Rattle.refusal.specs.declared.Refusal.the-variants.{Station}
+use Rattle.refusal.specs.declared.Acceptance.{Acceptance}
+use Rattle.refusal.specs.declared.Acceptance.the-variants.{Accepted, Refused}
+use Rattle.modem.specs.declared.rx.Rx.{Rx}
+use Rattle.tide.specs.Frame.{total}
+use Rattle.tide.specs.Desk.{addBytes, linesIn, verdictsIn, lastOf}
+use Rattle.tide.specs.Held.{deskOf, Sound}
+use Rattle.tide.specs.declared.desk.Desk.{Desk}
+use Rattle.board.specs.Plain as plain
+use Rattle.board.specs.declared.board.Board.{Board}
+use Rattle.board.specs.declared.board.Answer as code
+use Rattle.board.specs.declared.board.Answer.the-variants as answer
+use Rattle.board.specs.declared.board.Written.{Written}
+use Rattle.board.specs.declared.board.Created.{Created}
+
+-- what `Board` is in the definitions
+unfoldable pub plainOf : Board → plain.Plain
+plainOf b = record { demod = receiverOf (b .rx) .demod; accepted = receiverOf (b .rx) .accepted; desk = deskOf (b .desk) }
+
+-- what each case of an answer gives
+abbrev pub answerOf : code.Answer → plain.Answer
+answerOf (answer.Refused r) = plain.refused (numberOf r)
+answerOf (answer.Heard bytes lines last) = plain.heard bytes lines last
+
+-- `new`'s answer once the receiver's is known
+unfoldable pub checked : Acceptance → ℕ → Acceptance
+checked (Refused r) station = Refused r
+checked Accepted station = if eqb station 0 then Refused Station else Accepted
+
+-- ten for each line judged and for each byte that waits, and the bits of a byte begun, are at most three for each sample accepted: a byte has
+-- ten bits, and a sample makes three steps at the most. So no count passes its 64 bits
+unfoldable pub Few : Rx → Desk → Type 0
+Few rx desk =
+    10 * (total (desk .counts) + length (receiverOf rx .waiting)) + framing.held (receiverOf rx .demod .inner .core .deframer)
+    ≤ 3 * receiverOf rx .accepted
+
+-- ---- a state that `new` or a later call gave
+pub record BoardSound (b : Board) : Type 0 where
+  pub rx : RxSound (b .rx)
+  -- "the board reads all itself": no byte waits
+  pub empty : receiverOf (b .rx) .waiting ≡ []
+  pub desk : Sound (b .desk)
+  pub few : Few (b .rx) (b .desk)
+
+-- ---- what the calls do
+-- `new`
+pub record Makes (rate station : ℕ) (role : Role) (r : Created) : Type 0 where
+  pub answer : acceptanceOf (r .answer) ≡ plain.newOf rate station role .answer
+  pub state : plainOf (r .state) ≡ plain.newOf rate station role .state
+  pub sound : BoardSound (r .state)
+
+-- `write`
+pub record Writes (b : Board) (s : List Float) (r : Written) : Type 0 where
+  pub answer : answerOf (r .answer) ≡ plain.answer (plainOf b) s
+  pub state : plainOf (r .state) ≡ plain.after (plainOf b) s
+  pub sound : BoardSound (r .state)
+
+-- all bytes that wait in a receiver are read, and go to a desk
+pub record ReadsTo (rx : Rx) (d : Desk) (r : Written) : Type 0 where
+  pub answer :
+      answerOf (r .answer)
+      ≡ plain.heard (length (receiverOf rx .waiting)) (length (linesIn (deskOf d) (receiverOf rx .waiting))) (lastOf 0 (verdictsIn (deskOf d) (receiverOf rx .waiting)))
+  pub desk : deskOf (r .state .desk) ≡ addBytes (deskOf d) (receiverOf rx .waiting)
+  pub demod : receiverOf (r .state .rx) .demod ≡ receiverOf rx .demod
+  pub accepted : receiverOf (r .state .rx) .accepted ≡ receiverOf rx .accepted
+  pub sound : BoardSound (r .state)

@@ -1,0 +1,93 @@
+-- The mission's third term: one claim about the list of writes as a whole, from a fresh board on. Assumes nothing.
+use Prim.Native.Nat.{ℕ, _+_, _-_, _<_}
+use mathlib.Core.Path.{_≡_}
+use mathlib.Core.Logic.{_↔_}
+use mathlib.Core.Bool.{false}
+use mathlib.Core.List.{List, [], _∷_, _++_}
+use lib.IntN.{ℤ}
+use lib.ListN.{length, getD, drop}
+use lib.Ieee.{Float}
+use Rattle.tide.specs.Hex.{hexLine}
+use Rattle.tide.specs.Frame.{total, readerOf, Intact, Writer, Rules, bitsOf, lineBy}
+use Rattle.tide.specs.Judge.{Shown, none, shows, Verdict, judge, settle, ofFields, ofLine}
+use Rattle.tide.specs.JudgeLaws.{Passes}
+use Rattle.tide.specs.Desk.{Line, Desk, IsAnswer, countOf, verdict, shownOn, answersOn, times, goods, AtMost, Best}
+use Rattle.board.specs.Plain.{Plain, Answer, afterAll, linesAll, verdictsAll, answersAll, endedIn}
+
+-- ---- the lines judged, in order
+-- what a board of station `mine` shows when it has judged these lines since fresh, and the answers that it gave them
+abbrev pub stands : ℕ → List Line → Shown
+stands mine ls = shownOn mine none ls
+
+abbrev pub given : ℕ → List Line → List ℕ
+given mine ls = answersOn mine none ls
+
+-- the line that characters make, 64 or fewer
+abbrev pub lineOf : List ℕ → Line
+lineOf chars = record { chars = chars; more = false }
+
+-- what a board of station `mine` that shows r makes of a line for readers from 1 on: its station, stamp, age and level are all that counts.
+-- "So a line for readers from 1 on gets the first of 18, 19, 20 and 34 that applies, else 0"
+unfoldable pub onFields : ℕ → Shown → ℕ → ℕ → ℕ → ℤ → Verdict
+onFields mine r station stamp age level = settle (ofFields mine station stamp age (bitsOf level)) r (stamp - age) level
+
+-- the line l, judged after the lines ls, got this verdict: the answer at its place in the list, and what stands after it
+pub record JudgedAs (mine : ℕ) (answers : List ℕ) (ls : List Line) (l : Line) (v : Verdict) : Type 0 where
+  pub answer : getD answers (length ls) 0 ≡ v .answer
+  pub reading : stands mine (ls ++ l ∷ []) ≡ v .reading
+
+-- two lines that writers of any versions wrote for readers from 1 on, alike in station, stamp, age and level
+pub record Alike (v w : Writer) : Type 0 where
+  pub rules : Rules v × Rules w
+  pub readers : (v .reader ≡ 1) × (w .reader ≡ 1)
+  pub station : v .station ≡ w .station
+  pub stamp : v .stamp ≡ w .stamp
+  pub age : v .age ≡ w .age
+  pub level : v .level ≡ w .level
+
+-- ---- the term: of a fresh plain board, the writes, the board after them, and the answers given
+pub record Term3 (fresh : Plain) (ws : List (List Float)) (b : Plain) (said : List Answer) : Type 0 where
+  -- the board after the writes is the plain board's, which "is fed the calls' arguments alone"
+  pub board : b ≡ afterAll fresh ws
+  -- every answer is the plain board's
+  pub answers : said ≡ answersAll fresh ws
+  -- the reading is the good line with the greatest water minute, the earliest among equals: "greater than that of every good line judged
+  -- before it", and at least that of every one behind it
+  pub reading : Best (goods (fresh .desk .station) (linesAll fresh ws)) (b .desk .reading)
+  -- the board shows nothing exactly when no good line was judged
+  pub empty : (b .desk .reading ≡ none) ↔ (goods (fresh .desk .station) (linesAll fresh ws) ≡ [])
+  -- "The reading's W is at least that of every other good line judged since fresh"
+  pub greatest : (w : ℕ) (v : ℤ) → b .desk .reading ≡ shows w v → AtMost w (goods (fresh .desk .station) (linesAll fresh ws))
+  -- "one count for each line answer": the number of times that it was given
+  pub counts : (n : ℕ) → IsAnswer n → countOf (b .desk) n ≡ times n (verdictsAll fresh ws)
+  -- "Lines judged since fresh = lines ended, summed over the accepted writes"
+  pub ended : length (linesAll fresh ws) ≡ endedIn said
+  -- "= shown (answer 0) + sum of the other counts"
+  pub judged : length (linesAll fresh ws) ≡ countOf (b .desk) 0 + total (drop 1 (b .desk .counts))
+  -- the answers and the reading are those of the lines, "judged and emptied" one after the other
+  pub verdicts : verdictsAll fresh ws ≡ given (fresh .desk .station) (linesAll fresh ws)
+  pub shown : b .desk .reading ≡ stands (fresh .desk .station) (linesAll fresh ws)
+  -- each judged line at its place: its answer, and what stands after it, from what stood before it
+  pub each :
+      (ls rs : List Line) (l : Line) → linesAll fresh ws ≡ ls ++ l ∷ rs
+      → JudgedAs (fresh .desk .station) (verdictsAll fresh ws) ls l (judge (fresh .desk .station) (stands (fresh .desk .station) ls) (l .chars) (l .more))
+  -- each judged line that a writer of any version 1 to 255 wrote for readers from 1 on, "whatever its later bytes": judged on station, stamp,
+  -- age and level alone
+  pub fields :
+      (ls rs : List Line) (w : Writer) → linesAll fresh ws ≡ ls ++ lineOf (lineBy w) ∷ rs → Rules w → w .reader ≡ 1
+      → JudgedAs (fresh .desk .station) (verdictsAll fresh ws) ls (lineOf (lineBy w))
+      (onFields (fresh .desk .station) (stands (fresh .desk .station) ls) (w .station) (w .stamp) (w .age) (w .level))
+  -- "A line that passes 11 to 16 is intact": each judged line that does is one that some writer wrote, so that none is left out above and below
+  pub written :
+      (ls rs : List Line) (l : Line) → linesAll fresh ws ≡ ls ++ l ∷ rs → Passes (ofLine (fresh .desk .station) (l .chars) (l .more))
+      → (w : Writer) × Rules w × (l ≡ lineOf (lineBy w))
+  -- two such lines alike in these, on boards alike in station and reading: one answer, and one reading after it
+  pub alike :
+      (v w : Writer) (c d : Desk) → Alike v w → c .station ≡ d .station → c .reading ≡ d .reading
+      → c .line ≡ lineOf (lineBy v) → d .line ≡ lineOf (lineBy w) → verdict c ≡ verdict d
+  -- "one for newer readers has F > 1, and where it is intact it gets 17 and is so counted as newer": the reading stands, and 17 was given
+  -- once more
+  pub newer :
+      (ls rs : List Line) (f : List ℕ) → linesAll fresh ws ≡ ls ++ lineOf (hexLine f) ∷ rs → Intact f → 1 < readerOf f
+      → JudgedAs (fresh .desk .station) (verdictsAll fresh ws) ls (lineOf (hexLine f)) (record { answer = 17; reading = stands (fresh .desk .station) ls })
+      × (times 17 (given (fresh .desk .station) (ls ++ lineOf (hexLine f) ∷ [])) ≡ times 17 (given (fresh .desk .station) ls) + 1)

@@ -1,0 +1,142 @@
+// A list of writes from a fresh board on.
+use crate::board::Answer;
+use crate::board::Board;
+use modem::Role;
+use refusal::Acceptance;
+ghost use mathlib.Core.Path.{_≡_};
+ghost use mathlib.Core.List.{[], _∷_, _++_};
+ghost use Prim.Native.Nat.{min, _+_, _-_, _/_, _≤_};
+ghost use lib.ListN.{length, take, drop};
+ghost use Rattle.board.specs.Held.{answerOf, BoardSound};
+ghost use Rattle.board.specs.Runs.{numbersOf, Within, Stepped, RunFrom, Listens};
+
+// What `listen` answers: `new`'s answer, how many writes it ran, and the board after them.
+pub struct Listened {
+    pub answer: Acceptance,
+    pub writes: usize,
+    pub state: Board,
+}
+
+// An answer's four numbers.
+struct Told {
+    number: u32,
+    bytes: u64,
+    lines: u64,
+    last: u8,
+}
+
+fn told_of(answer: Answer) -> Told
+    ensures { λ r. ⌜ r .number ∷ r .bytes ∷ r .lines ∷ r .last ∷ [] ≡ numbersOf (answerOf answer) ⌝ }
+{
+    match answer {
+        Answer::Refused(why) => Told {
+            number: why.number(),
+            bytes: 0,
+            lines: 0,
+            last: 0,
+        },
+        Answer::Heard { bytes, lines, last } => Told {
+            number: 0,
+            bytes,
+            lines,
+            last,
+        },
+    }
+}
+
+// Writes the four numbers at `at`.
+fn tell(answers: &mut [u64], at: usize, t: Told)
+    requires { ⌜ at + 4 ≤ length (now answers) ⌝ }
+    ensures { λ _. ⌜ now (answers .exit) ≡ take at (now (answers .entry)) ++ (t .number ∷ t .bytes ∷ t .lines ∷ t .last ∷ drop (at + 4) (now (answers .entry))) ⌝ }
+{
+    answers[at] = t.number as u64;
+    answers[at + 1] = t.bytes;
+    answers[at + 2] = t.lines;
+    answers[at + 3] = t.last as u64;
+}
+
+// How many of the writes have room for four numbers.
+fn writes_in(writes: usize, room: usize) -> usize
+    ensures { λ r. ⌜ r ≡ min writes (room / 4) ⌝ }
+{
+    if writes < room / 4 { writes } else { room / 4 }
+}
+
+// The end of the next samples, or of all of them.
+fn part_end(from: usize, samples: u32, all: usize) -> usize
+    requires { ⌜ from ≤ all ⌝ }
+    ensures { λ r. ⌜ (r ≡ from + min samples (all - from)) × (from ≤ r) × (r ≤ all) ⌝ }
+{
+    let n = samples as usize;
+    if n < all - from { from + n } else { all }
+}
+
+// Where a list of writes stands: the board, and how many of the samples are behind it.
+struct Place {
+    board: Board,
+    read: usize,
+}
+
+// One write, and its four numbers at `at` of the answers.
+fn one_write(p: Place, samples: &[f32], n: u32, answers: &mut [u64], at: usize) -> Place
+    requires { ⌜ Within p (now samples) × (at + 4 ≤ length (now answers)) ⌝ }
+    ensures { λ r. ⌜ Stepped p r n (now (samples .entry)) at (now (answers .entry)) (now (answers .exit)) ⌝ }
+{
+    let board = p.board;
+    let read = p.read;
+    let end = part_end(read, n, samples.len());
+    let w = board.write(&samples[read..end]);
+    let answer = w.answer;
+    let t = told_of(answer);
+    tell(answers, at, t);
+    let next = w.state;
+    Place {
+        board: next,
+        read: end,
+    }
+}
+
+// A write for each length.
+fn all_writes(board: Board, samples: &[f32], lengths: &[u32], answers: &mut [u64]) -> Listened
+    requires { ⌜ BoardSound board ⌝ }
+    ensures { λ r. ⌜ RunFrom board (now (samples .entry)) (now (lengths .entry)) (now (answers .entry)) r (now (answers .exit)) ⌝ }
+{
+    let writes = writes_in(lengths.len(), answers.len());
+    let mut place = Place { board, read: 0 };
+    let mut i = 0;
+    while i < writes {
+        place = one_write(place, samples, lengths[i], answers, 4 * i);
+        i += 1;
+    }
+    let state = place.board;
+    Listened {
+        answer: Acceptance::Accepted,
+        writes,
+        state,
+    }
+}
+
+// The third term: a fresh board, and one write for each length. A write takes the next samples, or what is left of them, and puts four numbers
+// into the answers; as many are run as have room. Refused, it leaves the answers as they were.
+pub fn listen(
+    rate: u32,
+    station: u16,
+    role: Role,
+    samples: &[f32],
+    lengths: &[u32],
+    answers: &mut [u64],
+) -> Listened
+    ensures { λ r. ⌜ Listens rate station role (now (samples .entry)) (now (lengths .entry)) (now (answers .entry)) r (now (answers .exit)) ⌝ }
+{
+    let made = Board::new(rate, station, role);
+    let answer = made.answer;
+    let state = made.state;
+    match answer {
+        Acceptance::Refused(_) => Listened {
+            answer,
+            writes: 0,
+            state,
+        },
+        Acceptance::Accepted => all_writes(state, samples, lengths, answers),
+    }
+}

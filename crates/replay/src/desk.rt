@@ -1,0 +1,268 @@
+// What the program keeps from line to line, and what each line does.
+use crate::block::Filled;
+use crate::block::equal;
+use crate::block::several;
+use crate::block::signs;
+use crate::fields::numbers_of;
+use crate::floats::doubles;
+use crate::floats::singles;
+use crate::print;
+use crate::receiver;
+use crate::resampler;
+use modem::Role;
+use modem::rx::Rx;
+use resampling::resample::Resampler;
+ghost use Prim.Native.Nat.{_≤_};
+ghost use mathlib.Core.Path.{_≡_};
+ghost use lib.ListN.{length};
+ghost use Rattle.modem.specs.RxHeld.{RxSound};
+ghost use Rattle.resampling.specs.ResampleHeld.{Sound};
+ghost use Rattle.replay.specs.Desk.{DeskSound};
+
+// The places of the block: one more than a call of the resampler takes.
+pub const PLACES: usize = 2049;
+
+// The most places of an output.
+const MOST_ROOM: u64 = 4096;
+
+pub struct Desk {
+    pub rx: Rx,
+    pub resampler: Resampler,
+    // Samples in the block.
+    pub n: usize,
+    // Lines begun.
+    pub line: u64,
+}
+
+pub fn fresh() -> Desk
+    ensures { λ r. ⌜ DeskSound r ⌝ }
+{
+    let receiver = Rx::new(8000, Role::Originate);
+    let converter = Resampler::new(8000, 8000);
+    let rx = receiver.state;
+    let resampler = converter.state;
+    Desk {
+        rx,
+        resampler,
+        n: 0,
+        line: 0,
+    }
+}
+
+// The next line begins.
+fn counted(d: Desk) -> Desk
+    requires { ⌜ DeskSound d ⌝ }
+    ensures { λ r. ⌜ DeskSound r ⌝ }
+{
+    let rx = d.rx;
+    let resampler = d.resampler;
+    Desk {
+        rx,
+        resampler,
+        n: d.n,
+        line: std::num::wrapping_add_u64(d.line, 1),
+    }
+}
+
+// A line that is none of those that main.rt lists: nothing is done.
+fn malformed(d: Desk) -> Desk
+    requires { ⌜ DeskSound d ⌝ }
+    ensures { λ r. ⌜ DeskSound r ⌝ }
+{
+    print::text(b"? line ");
+    print::number(d.line);
+    print::end_line();
+    d
+}
+
+fn filled(d: Desk, f: Filled) -> Desk
+    requires { ⌜ DeskSound d × (f .n ≤ 2049) ⌝ }
+    ensures { λ r. ⌜ DeskSound r ⌝ }
+{
+    if !f.good {
+        return malformed(d);
+    }
+    let rx = d.rx;
+    let resampler = d.resampler;
+    Desk {
+        rx,
+        resampler,
+        n: f.n,
+        line: d.line,
+    }
+}
+
+fn with_rx(d: Desk, rx: Rx) -> Desk
+    requires { ⌜ DeskSound d × RxSound rx ⌝ }
+    ensures { λ r. ⌜ DeskSound r ⌝ }
+{
+    let resampler = d.resampler;
+    Desk {
+        rx,
+        resampler,
+        n: 0,
+        line: d.line,
+    }
+}
+
+fn with_resampler(d: Desk, resampler: Resampler) -> Desk
+    requires { ⌜ DeskSound d × Sound resampler ⌝ }
+    ensures { λ r. ⌜ DeskSound r ⌝ }
+{
+    let rx = d.rx;
+    Desk {
+        rx,
+        resampler,
+        n: 0,
+        line: d.line,
+    }
+}
+
+// ---- the calls
+
+fn new_receiver(d: Desk, line: &[u8]) -> Desk
+    requires { ⌜ DeskSound d ⌝ }
+    ensures { λ r. ⌜ DeskSound r ⌝ }
+{
+    let f = numbers_of(line, false);
+    if f.count != 2 {
+        return malformed(d);
+    }
+    if 0xFFFF_FFFF < f.a {
+        return malformed(d);
+    }
+    if 1 < f.b {
+        return malformed(d);
+    }
+    let rx = receiver::create(f.a as u32, f.b);
+    with_rx(d, rx)
+}
+
+fn no_samples() -> [f32; PLACES]
+    ensures { λ r. ⌜ length r ≡ 2049 ⌝ }
+{
+    [0.0f32; PLACES]
+}
+
+fn write(d: Desk, block: &[u64], line: &[u8]) -> Desk
+    requires { ⌜ DeskSound d ⌝ }
+    ensures { λ r. ⌜ DeskSound r ⌝ }
+{
+    let f = numbers_of(line, false);
+    if f.count != 2 {
+        return malformed(d);
+    }
+    let mut samples = no_samples();
+    singles(block, &mut samples);
+    let n = d.n;
+    let before = d.rx;
+    let rx = receiver::write(before, &samples[..n], f.a, f.b);
+    with_rx(d, rx)
+}
+
+fn new_resampler(d: Desk, line: &[u8]) -> Desk
+    requires { ⌜ DeskSound d ⌝ }
+    ensures { λ r. ⌜ DeskSound r ⌝ }
+{
+    let f = numbers_of(line, false);
+    if f.count != 2 {
+        return malformed(d);
+    }
+    if 0xFFFF_FFFF < f.a {
+        return malformed(d);
+    }
+    if 0xFFFF_FFFF < f.b {
+        return malformed(d);
+    }
+    let r = resampler::create(f.a as u32, f.b as u32);
+    with_resampler(d, r)
+}
+
+fn no_input() -> [f64; PLACES]
+    ensures { λ r. ⌜ length r ≡ 2049 ⌝ }
+{
+    [0.0f64; PLACES]
+}
+
+fn process(d: Desk, block: &[u64], line: &[u8]) -> Desk
+    requires { ⌜ DeskSound d ⌝ }
+    ensures { λ r. ⌜ DeskSound r ⌝ }
+{
+    let f = numbers_of(line, false);
+    if f.count != 1 {
+        return malformed(d);
+    }
+    if MOST_ROOM < f.a {
+        return malformed(d);
+    }
+    let mut input = no_input();
+    doubles(block, &mut input);
+    let n = d.n;
+    let before = d.resampler;
+    let r = resampler::process(before, &input[..n], f.a as usize);
+    with_resampler(d, r)
+}
+
+fn longest(d: Desk, line: &[u8]) -> Desk
+    requires { ⌜ DeskSound d ⌝ }
+    ensures { λ r. ⌜ DeskSound r ⌝ }
+{
+    let f = numbers_of(line, false);
+    if f.count != 3 {
+        return malformed(d);
+    }
+    if 0xFFFF_FFFF < f.a {
+        return malformed(d);
+    }
+    if 0xFFFF_FFFF < f.b {
+        return malformed(d);
+    }
+    resampler::longest(f.a as u32, f.b as u32, f.c);
+    d
+}
+
+// ---- a line
+
+// The lines that make a call.
+fn call(d: Desk, letter: u8, block: &[u64], line: &[u8]) -> Desk
+    requires { ⌜ DeskSound d ⌝ }
+    ensures { λ r. ⌜ DeskSound r ⌝ }
+{
+    match letter {
+        b'R' => new_receiver(d, line),
+        b'W' => write(d, block, line),
+        b'Z' => new_resampler(d, line),
+        b'P' => process(d, block, line),
+        b'M' => longest(d, line),
+        _ => malformed(d),
+    }
+}
+
+fn remark(d: Desk, line: &[u8]) -> Desk
+    requires { ⌜ DeskSound d ⌝ }
+    ensures { λ r. ⌜ DeskSound r ⌝ }
+{
+    print::text(line);
+    print::end_line();
+    d
+}
+
+// One line, without its end.
+pub fn run(before: Desk, block: &mut [u64], line: &[u8]) -> Desk
+    requires { ⌜ DeskSound before × (length (now block) ≡ 2049) ⌝ }
+    ensures { λ r. ⌜ DeskSound r × (length (now (block .exit)) ≡ 2049) ⌝ }
+{
+    let d = counted(before);
+    if line.len() == 0 {
+        return malformed(d);
+    }
+    let letter = line[0];
+    let n = d.n;
+    match letter {
+        b'#' => remark(d, line),
+        b'S' => filled(d, several(block, n, line)),
+        b'N' => filled(d, equal(block, n, line)),
+        b'B' => filled(d, signs(block, n, line)),
+        _ => call(d, letter, block, line),
+    }
+}

@@ -1,0 +1,29 @@
+-- Two bytes, high byte first. Assumes nothing.
+use native.Mathlib.Omega.{arith}
+use Rattle.tide.specs.Frame.{levelOf}
+use borrow.Author.Needs.{needs}
+use Rattle.tide.proofs.frame.level_bits.Statement.{statement}
+use Rattle.tide.proofs.frame.level_bits.Tie as tie
+use Rattle.tide.proofs.frame.level_bits.Reads as reads
+use Rattle.tide.proofs.frame.level_bits.Lts as lts
+use Rattle.tide.proofs.hex.byte.Reads as byte-reads
+
+byte-requires : tie.Need-byte-requires
+byte-requires c κs = search needs
+
+mul-result : tie.Need-mul-result
+mul-result c = search needs
+
+byte-requires-2 : tie.Need-byte-requires-2
+byte-requires-2 c κs = search needs
+
+add-result : tie.Need-add-result
+add-result c = search needs
+
+returns : tie.Need-returns
+unfolding levelOf
+returns c =
+    (omega arith, omega arith)
+
+pub level-bits-spec : {M : Type 1} → statement M
+level-bits-spec = tie.close (tie.spec byte-requires mul-result byte-requires-2 add-result returns)

@@ -1,0 +1,60 @@
+-- Four bytes, high byte first. Assumes nothing.
+use native.Mathlib.Omega.{arith}
+use Rattle.tide.specs.Frame.{stampOf}
+use borrow.Author.Needs.{needs}
+use Rattle.tide.proofs.frame.stamp_of.Statement.{statement}
+use Rattle.tide.proofs.frame.stamp_of.Tie as tie
+use Rattle.tide.proofs.frame.stamp_of.Reads as reads
+use Rattle.tide.proofs.frame.stamp_of.Lts as lts
+use Rattle.tide.proofs.hex.byte.Reads as byte-reads
+
+byte-requires : tie.Need-byte-requires
+byte-requires c κs = search needs
+
+mul-result : tie.Need-mul-result
+mul-result c = search needs
+
+byte-requires-2 : tie.Need-byte-requires-2
+byte-requires-2 c κs = search needs
+
+mul-result-2 : tie.Need-mul-result-2
+mul-result-2 c = search needs
+
+add-result : tie.Need-add-result
+add-result c = search needs
+
+byte-requires-3 : tie.Need-byte-requires-3
+byte-requires-3 c κs = search needs
+
+mul-result-3 : tie.Need-mul-result-3
+mul-result-3 c = search needs
+
+add-result-2 : tie.Need-add-result-2
+add-result-2 c = search needs
+
+byte-requires-4 : tie.Need-byte-requires-4
+byte-requires-4 c κs = search needs
+
+add-result-3 : tie.Need-add-result-3
+add-result-3 c = search needs
+
+returns : tie.Need-returns
+unfolding stampOf
+returns c =
+    omega arith
+
+pub stamp-of-spec : {M : Type 1} → statement M
+stamp-of-spec =
+    tie.close
+    (tie.spec
+    byte-requires
+    mul-result
+    byte-requires-2
+    mul-result-2
+    add-result
+    byte-requires-3
+    mul-result-3
+    add-result-2
+    byte-requires-4
+    add-result-3
+    returns)

@@ -1,0 +1,72 @@
+-- Two digits say the byte at its place, and digits say bytes. Assumes nothing.
+use Rattle.tide.specs.Hex.{unhex}
+use native.Mathlib.Omega.{arith}
+use Rattle.tide.specs.HexLaws.{unhex-bytes}
+use Rattle.tide.specs.FrameLaws.{byte-at}
+use Rattle.tide.proofs.Places.{unhex-at}
+use denote.Ref.{now}
+use mathlib.Core.Path.{_∙_, sym, ap₂}
+use Prim.Native.Nat.{ℕ, _+_, _*_}
+use borrow.Author.Needs.{needs}
+use Rattle.tide.proofs.hex.byte.Statement.{statement}
+use Rattle.tide.proofs.hex.byte.Tie as tie
+use Rattle.tide.proofs.hex.byte.Reads as reads
+use Rattle.tide.proofs.hex.byte.Lts as lts
+use Rattle.tide.proofs.hex.digit.Reads as digit-reads
+
+mul-digit : tie.Need-mul-digit
+mul-digit c = search needs
+
+shared-slice-read-digit : tie.Need-shared-slice-read-digit
+shared-slice-read-digit c = search needs
+
+digit-requires : tie.Need-digit-requires
+digit-requires c κs = search needs
+
+mul-digit-2 : tie.Need-mul-digit-2
+mul-digit-2 c = search needs
+
+add-digit : tie.Need-add-digit
+add-digit c = search needs
+
+shared-slice-read-digit-2 : tie.Need-shared-slice-read-digit-2
+shared-slice-read-digit-2 c = search needs
+
+digit-requires-2 : tie.Need-digit-requires-2
+digit-requires-2 c κs = search needs
+
+cast-result : tie.Need-cast-result
+cast-result c = search needs
+
+mul-result : tie.Need-mul-result
+mul-result c = search needs
+
+cast-result-2 : tie.Need-cast-result-2
+cast-result-2 c = search needs
+
+add-result : tie.Need-add-result
+add-result c = search needs
+
+returns : tie.Need-returns
+returns c =
+    let b = c .before .before .before .before .before in
+    let s = now (b .args .s) in
+    let e = ap₂ (λ (x y : ℕ). 16 * x + y) (c .before .before .digit .ensures) (c .digit2 .ensures) ∙ sym (unhex-at s (b .args .i) (b .pre .0)) in
+    (e, omega (arith, e, byte-at (unhex s) (b .args .i) (unhex-bytes s (b .pre .1))))
+
+pub byte-spec : {M : Type 1} → statement M
+byte-spec =
+    tie.close
+    (tie.spec
+    mul-digit
+    shared-slice-read-digit
+    digit-requires
+    mul-digit-2
+    add-digit
+    shared-slice-read-digit-2
+    digit-requires-2
+    cast-result
+    mul-result
+    cast-result-2
+    add-result
+    returns)

@@ -1,0 +1,59 @@
+-- The first test that holds gives the number, and a line of digits has that of its frame. Assumes nothing.
+use mathlib.Core.Path.{refl, _∙_, sym}
+use native.Mathlib.Omega.{arith}
+use borrow.Author.Tests.{lt-ltb, le-ltb, eq-eqb, ne-eqb}
+use Rattle.tide.specs.Judge.{ofLine}
+use Rattle.refusal.specs.Refusals.{first}
+use borrow.Author.Needs.{needs}
+use Rattle.tide.proofs.judge.line_number.Statement.{statement}
+use Rattle.tide.proofs.judge.line_number.Tie as tie
+use Rattle.tide.proofs.judge.line_number.Reads as reads
+use Rattle.tide.proofs.judge.line_number.Lts as lts
+use Rattle.tide.proofs.hex.all_digits.Reads as all-digits-reads
+use Rattle.tide.proofs.judge.frame_number.Reads as frame-number-reads
+
+returns : tie.Need-returns
+unfolding ofLine first
+returns c =
+    rw (c .if1 .taken) refl
+
+returns-2 : tie.Need-returns-2
+unfolding ofLine first
+returns-2 c =
+    rw (c .before .if1 .left, lt-ltb _ _ (c .if2 .taken)) refl
+
+returns-3 : tie.Need-returns-3
+unfolding ofLine first
+returns-3 c =
+    rw (c .before .before .if1 .left, le-ltb _ _ (c .before .if2 .left), eq-eqb _ _ (c .if3 .taken)) refl
+
+all-digits-requires : tie.Need-all-digits-requires
+all-digits-requires c κs = search needs
+
+frame-number-requires : tie.Need-frame-number-requires
+frame-number-requires c κs =
+    (omega arith, omega arith, sym (c .before .all-digits .ensures) ∙ c .if4 .taken)
+
+returns-4 : tie.Need-returns-4
+unfolding ofLine first
+returns-4 c =
+    let d = c .before .before .before in
+    rw (d .before .before .if1 .left, le-ltb _ _ (d .before .if2 .left), ne-eqb _ _ (d .if3 .left), ← c .before .before .all-digits .ensures, c .before .if4 .taken) (c .frame-number .ensures)
+
+returns-5 : tie.Need-returns-5
+unfolding ofLine first
+returns-5 c =
+    let d = c .before .before in
+    rw (d .before .before .if1 .left, le-ltb _ _ (d .before .if2 .left), ne-eqb _ _ (d .if3 .left), ← c .before .all-digits .ensures, c .if4 .left) refl
+
+pub line-number-spec : {M : Type 1} → statement M
+line-number-spec =
+    tie.close
+    (tie.spec
+    returns
+    returns-2
+    returns-3
+    all-digits-requires
+    frame-number-requires
+    returns-4
+    returns-5)

@@ -1,0 +1,65 @@
+-- What a line is judged to be: the numbers 11 to 20 and 34, and the reading that it leaves. Assumes nothing.
+use Prim.Native.Nat.{ℕ, _-_, _%_}
+use mathlib.Core.Bool.{Bool, true, not, _||_}
+use mathlib.Core.List.{List}
+use lib.Dec.{ltb, eqb}
+use lib.IntN.{ℤ}
+use lib.ListN.{length}
+use Rattle.numeric.specs.F64.{if_then_else_}
+use Rattle.refusal.specs.Refusals.{first}
+use Rattle.tide.specs.Hex.{allHex, unhex}
+use Rattle.tide.specs.Frame.{total, versionOf, readerOf, saidLength, stationOf, stampOf, ageOf, levelOf, signed, missing, waterOf, misfit}
+
+-- what a line for readers from 1 on is judged on, by a board of station `mine`; 0 where none applies:
+-- "18 station not the board's. 19 A = 255 or A > T. 20 level missing"
+unfoldable pub ofFields : ℕ → ℕ → ℕ → ℕ → ℕ → ℕ
+ofFields mine station stamp age level =
+    first (not (eqb station mine)) 18
+    (first (eqb age 255 || ltb stamp age) 19
+    (first (eqb level missing) 20
+    0))
+
+-- of a frame: "14 b2 ≠ n. 15 sum. 16 V or F is 0, F > V, or V = 1 with n ≠ 13. 17 F > 1", then its fields
+unfoldable pub ofFrame : ℕ → List ℕ → ℕ
+ofFrame mine f =
+    first (not (eqb (saidLength f) (length f))) 14
+    (first (not (eqb (total f % 256) 0)) 15
+    (first (misfit (versionOf f) (readerOf f) (length f)) 16
+    (first (ltb 1 (readerOf f)) 17
+    (ofFields mine (stationOf f) (stampOf f) (ageOf f) (levelOf f)))))
+
+-- of a line, its first 64 characters and whether there were more: "11 over 64 characters. 12 under 26 or odd. 13 not 0-9, A-F", then
+-- its frame. 0: "one that passes 11 to 20 is good"
+unfoldable pub ofLine : ℕ → List ℕ → Bool → ℕ
+ofLine mine l more =
+    first more 11
+    (first (ltb (length l) 26 || eqb (length l % 2) 1) 12
+    (first (not (allHex l)) 13
+    (ofFrame mine (unhex l))))
+
+-- "reading (W and level) or none"
+pub data Shown : Type 0 where
+  none : Shown
+  shows : ℕ → ℤ → Shown
+
+-- a line's answer, and what is shown after it
+pub record Verdict : Type 0 where
+  pub answer : ℕ
+  pub reading : Shown
+
+-- "if none stands or its W is greater"
+unfoldable pub later : Shown → ℕ → Bool
+later none w = true
+later (shows w₀ v₀) w = ltb w₀ w
+
+-- "a good line replaces the reading if none stands or its W is greater, else answer 34"; any other leaves it: of the line's number, what
+-- stands, and the line's W and level
+unfoldable pub settle : ℕ → Shown → ℕ → ℤ → Verdict
+settle n r w v =
+    if eqb n 0
+    then (if later r w then record { answer = 0; reading = shows w v } else record { answer = 34; reading = r })
+    else record { answer = n; reading = r }
+
+-- a line judged by a board of station `mine` that shows r
+unfoldable pub judge : ℕ → Shown → List ℕ → Bool → Verdict
+judge mine r l more = settle (ofLine mine l more) r (waterOf (unhex l)) (signed (levelOf (unhex l)))

@@ -1,0 +1,32 @@
+-- The desk is what `add_byte` ensures, and the count what `one_more` ensures. Assumes nothing.
+use Rattle.tidetext.proofs.Blocks.{taken-end, taken-on}
+use borrow.Author.Needs.{needs}
+use Rattle.tidetext.proofs.after_byte.Statement.{statement}
+use Rattle.tidetext.proofs.after_byte.Tie as tie
+use Rattle.tidetext.proofs.after_byte.Reads as reads
+use Rattle.tidetext.proofs.after_byte.Lts as lts
+use Rattle.tide.proofs.desk.Desk.add_byte.Reads as add-byte-reads
+use Rattle.tidetext.proofs.one_more.Reads as one-more-reads
+use Rattle.tidetext.proofs.print_answer.Reads as print-answer-reads
+
+add-byte-requires : tie.Need-add-byte-requires
+add-byte-requires c κs = search needs
+
+one-more-requires : tie.Need-one-more-requires
+one-more-requires c κs = search needs
+
+print-answer-requires : tie.Need-print-answer-requires
+print-answer-requires c κs = search needs
+
+returns : tie.Need-returns
+returns c =
+    taken-end _ _ _ _ (c .before .before .before .before .add-byte .ensures) (c .before .before .if1 .taken) (c .before .one-more .ensures)
+
+returns-2 : tie.Need-returns-2
+returns-2 c =
+    taken-on _ _ _ (c .before .before .add-byte .ensures) (c .if1 .left)
+
+pub after-byte-spec : {M : Type 1} → statement M
+after-byte-spec =
+    tie.close
+    (tie.spec add-byte-requires one-more-requires print-answer-requires returns returns-2)

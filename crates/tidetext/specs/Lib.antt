@@ -1,0 +1,2 @@
+-- The definitions that the contracts of `tidetext` cite.
+pub mod Text
