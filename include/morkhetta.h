@@ -25,6 +25,24 @@
  * A function returns the number of calls that it ran: one for each length, as
  * long as the answers have room for two more numbers. Elements of the answers
  * and of the output behind what was written are as they were.
+ *
+ * The receiver runs a script of three numbers a call (a last one or two that
+ * make no whole call are passed over): the samples in the write, then at most
+ * how many bytes to read and how many events to take. Each call is answered by
+ * five numbers:
+ *
+ *   the number of the write's refusal, 0 where it is accepted
+ *   bytes read
+ *   events taken
+ *   carrier: 1 or 0
+ *   framing errors since fresh
+ *
+ * A write is refused by the first of these that applies:
+ *
+ *   3   more than 1,024 samples
+ *   4   a sample not finite or beyond -1 to 1
+ *   31  it would pass 4,294,967,296 samples for this receiver
+ *   32  more than 409 of 512 received bytes wait
  */
 #ifndef MORKHETTA_H
 #define MORKHETTA_H
@@ -62,6 +80,63 @@ size_t morkhetta_resample(
     const uint32_t *lengths, size_t lengths_len,
     double *output, size_t output_len,
     uint64_t *answers, size_t answers_len
+);
+
+/* A fresh receiver at the device rate `rate` and for the role 0 (the end that
+ * dials) or any other number (the end that picks up), and the calls of the
+ * script, as long as the answers have room for five more numbers. Returns the
+ * number of calls run. A rate outside 8,000 to 48,000 runs none: the function
+ * returns 0 and writes nothing.
+ *
+ * A call writes the next samples, as many as the script says or what is left of
+ * them; those of a refused write are passed over. Then it reads, oldest first,
+ * the bytes that wait, at most as many as the script says and as have room
+ * behind the bytes of the earlier calls; and it takes, oldest first, the carrier
+ * events that wait, 1 for up and 0 for down, at most as many as the script says
+ * and as have room behind those of the earlier calls. Both happen after a
+ * refused write too. Bytes, events and answers behind what was written are as
+ * they were.
+ */
+size_t morkhetta_receive(
+    uint32_t rate,
+    uint32_t role,
+    const float *samples, size_t samples_len,
+    const uint32_t *script, size_t script_len,
+    uint8_t *bytes, size_t bytes_len,
+    uint8_t *events, size_t events_len,
+    uint64_t *answers, size_t answers_len
+);
+
+/* The state of a receiver behind all calls of a script, for comparisons bit for
+ * bit: its 909 numbers at the front of `state`, the rest of which is as it was.
+ * The calls are those of morkhetta_receive, with room for 512 bytes and 64
+ * events, as many as can wait; what they read and take is dropped. Returns 1; or
+ * 0, with nothing written, where `state` has fewer than 909 elements or the rate
+ * is refused.
+ *
+ * Whole numbers stand as themselves, yes and no as 1.0 and 0.0. The order:
+ *
+ *   373  the resampler's taps, and 0.0 in the places that the rate does not use
+ *   373  its filter's history, newest first, and 0.0 likewise
+ *     7  window of four, oldest first; place; count; step
+ *     2  the correlator's next place; whether its rings are filled
+ *   108  its four rings of 27 in place order: mark i, mark q, space i, space q
+ *     4  phases of mark and space; their increments
+ *     5  symbol phase; its increment; last symbol; mid symbol; whether there is one
+ *     4  deframer: in a frame; bits so far; byte so far; errors
+ *     4  detector: level; floor; detected; hold-off
+ *    21  five probes around the mark, two at the own tones: coefficient and two
+ *        states of each
+ *     2  wideband power; samples in the block
+ *     3  gate open; qualified; ever qualified
+ *     3  bytes waiting; events waiting; samples accepted
+ */
+uint32_t morkhetta_receiver_state(
+    uint32_t rate,
+    uint32_t role,
+    const float *samples, size_t samples_len,
+    const uint32_t *script, size_t script_len,
+    double *state, size_t state_len
 );
 
 #ifdef __cplusplus

@@ -27,8 +27,8 @@ use Rattle.tide.specs.Held as desks
 use Rattle.tide.specs.declared.desk.Desk.{Desk}
 use Rattle.tide.specs.declared.desk.Fed.{Fed}
 use Rattle.board.specs.Plain as plain
-use Rattle.board.specs.PlainLaws.{after-accepted, answer-accepted, after-refused, answer-refused}
-use Rattle.board.specs.Held.{plainOf, answerOf, checked, Few, BoardSound, Makes, Writes, ReadsTo}
+use Rattle.board.specs.PlainLaws.{events-accepted, events-refused, after-accepted, answer-accepted, after-refused, answer-refused}
+use Rattle.board.specs.Held.{plainOf, eventsIn, answerOf, checked, Few, BoardSound, Makes, Writes, ReadsTo}
 use Rattle.board.specs.declared.board.Board.{Board}
 use Rattle.board.specs.declared.board.Answer.the-variants as answer
 use Rattle.board.specs.declared.board.Written.{Written}
@@ -73,12 +73,13 @@ module _ (rate station : ℕ) (role : Role) (r : Rx) (a : Acceptance) (d : Desk)
       omega (arith, no-counts, w, h)
 
   pub makes : Makes rate station role (record { answer = checked a station; state = record { rx = r; desk = d } })
-  unfolding plainOf plain.newOf plain.newNumber plain.fresh
+  unfolding plainOf eventsIn plain.newOf plain.newNumber plain.fresh
   makes =
       record {
         answer = checked-is (rateRefused rate) a station (ap (λ (m : rx.Made). m .answer) (gave ∙ new-is rate role));
         state =
             plain-same _ _ _ _ _ _ (ap (λ (x : rx.Receiver). x .demod) receiver-is) (ap (λ (x : rx.Receiver). x .accepted) receiver-is) (made .same);
+        events = ap (λ (x : rx.Receiver). x .noted) receiver-is;
         sound = record { rx = sound; empty = ap (λ (x : rx.Receiver). x .waiting) receiver-is; desk = made .sound; few = few };
       }
 
@@ -111,6 +112,7 @@ module _ (r : Rx) (d : Desk) (sound : RxSound r) (sound-desk : desks.Sound d) (f
           answer = rw (all .count, g .lines, g .last) refl;
           desk = g .same ∙ holds-bytes (receiverOf r .waiting) (desks.deskOf d) (sound-desk .places) few-counts;
           demod = all .demod;
+          events = all .noted;
           accepted = all .accepted;
           sound = record { rx = sound-next; empty = all .waiting; desk = g .sound; few = few-next f (g .few) };
         }
@@ -130,6 +132,7 @@ module _ (b : Board) (s : List Float) (ok : BoardSound b) (next : Rx) where
       record {
         answer = sym (answer-refused (plainOf b) s z ∙ ap plain.refused n);
         state = sym (after-refused (plainOf b) s z);
+        events = sym (events-refused (plainOf b) (eventsIn b) s z);
         sound = ok;
       }
 
@@ -168,5 +171,9 @@ module _ (b : Board) (s : List Float) (ok : BoardSound b) (next : Rx) where
           plain-same _ _ _ _ _ _ (t .demod ∙ went .demod) (t .accepted ∙ went .accepted)
           (t .desk ∙ ap (λ (l : List ℕ). tide.addBytes (desks.deskOf (b .desk)) l) bytes-wait)
 
+      notes : eventsIn (r .state) ≡ plain.eventsAfter (plainOf b) (eventsIn b) s
+      unfolding plainOf eventsIn
+      notes = t .events ∙ went .noted ∙ sym (events-accepted (plainOf b) (eventsIn b) s none-refused)
+
       pub writes-accepted : Writes b s r
-      writes-accepted = record { answer = answers; state = takes ∙ sym (after-accepted (plainOf b) s none-refused); sound = t .sound }
+      writes-accepted = record { answer = answers; state = takes ∙ sym (after-accepted (plainOf b) s none-refused); events = notes; sound = t .sound }

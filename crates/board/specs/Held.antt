@@ -1,6 +1,7 @@
 -- How the code's `Board` holds what specs/Plain.antt speaks of, the invariant of its states, and what each call does. Assumes nothing.
 use Prim.Native.Nat.{ℕ, _+_, _*_, _≤_}
 use mathlib.Core.Path.{_≡_}
+use mathlib.Core.Bool.{Bool}
 use mathlib.Core.List.{List, []}
 use lib.Dec.{eqb}
 use lib.ListN.{length}
@@ -28,6 +29,10 @@ use Rattle.board.specs.declared.board.Created.{Created}
 -- what `Board` is in the definitions
 unfoldable pub plainOf : Board → plain.Plain
 plainOf b = record { demod = receiverOf (b .rx) .demod; accepted = receiverOf (b .rx) .accepted; desk = deskOf (b .desk) }
+
+-- the carrier events that wait in its receiver
+unfoldable pub eventsIn : Board → List Bool
+eventsIn b = receiverOf (b .rx) .noted
 
 -- what each case of an answer gives
 abbrev pub answerOf : code.Answer → plain.Answer
@@ -59,12 +64,14 @@ pub record BoardSound (b : Board) : Type 0 where
 pub record Makes (rate station : ℕ) (role : Role) (r : Created) : Type 0 where
   pub answer : acceptanceOf (r .answer) ≡ plain.newOf rate station role .answer
   pub state : plainOf (r .state) ≡ plain.newOf rate station role .state
+  pub events : eventsIn (r .state) ≡ []
   pub sound : BoardSound (r .state)
 
 -- `write`
 pub record Writes (b : Board) (s : List Float) (r : Written) : Type 0 where
   pub answer : answerOf (r .answer) ≡ plain.answer (plainOf b) s
   pub state : plainOf (r .state) ≡ plain.after (plainOf b) s
+  pub events : eventsIn (r .state) ≡ plain.eventsAfter (plainOf b) (eventsIn b) s
   pub sound : BoardSound (r .state)
 
 -- all bytes that wait in a receiver are read, and go to a desk
@@ -74,5 +81,6 @@ pub record ReadsTo (rx : Rx) (d : Desk) (r : Written) : Type 0 where
       ≡ plain.heard (length (receiverOf rx .waiting)) (length (linesIn (deskOf d) (receiverOf rx .waiting))) (lastOf 0 (verdictsIn (deskOf d) (receiverOf rx .waiting)))
   pub desk : deskOf (r .state .desk) ≡ addBytes (deskOf d) (receiverOf rx .waiting)
   pub demod : receiverOf (r .state .rx) .demod ≡ receiverOf rx .demod
+  pub events : receiverOf (r .state .rx) .noted ≡ receiverOf rx .noted
   pub accepted : receiverOf (r .state .rx) .accepted ≡ receiverOf rx .accepted
   pub sound : BoardSound (r .state)

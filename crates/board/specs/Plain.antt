@@ -8,6 +8,7 @@ use lib.Ieee.{Float}
 use Rattle.numeric.specs.F64.{if_then_else_}
 use Rattle.modem.specs.declared.Role.{Role}
 use Rattle.refusal.specs.Refusals.{Reply, replyOf, first, rateRefused}
+use Rattle.modem.specs.Queue.{notingAll}
 use Rattle.modem.specs.Rx.{Demod, heardBy, freshDemod, refusedBy}
 use Rattle.modem.specs.RxCalls.{admitted}
 use Rattle.tide.specs.Desk.{Line, Desk, freshDesk, addBytes, linesIn, verdictsIn, lastOf}
@@ -103,3 +104,11 @@ unfoldable pub endedIn : List Answer → ℕ
 endedIn [] = 0
 endedIn (refused n ∷ l) = endedIn l
 endedIn (heard bytes ended last ∷ l) = ended + endedIn l
+
+-- ---- the carrier events that wait in the receiver: the board gives none of them out, and nothing above depends on them
+unfoldable pub eventsAfter : Plain → List Bool → List Float → List Bool
+eventsAfter b noted s = if accepts b s then notingAll noted (heardBy (b .demod) s .events) else noted
+
+unfoldable pub eventsAll : Plain → List Bool → List (List Float) → List Bool
+eventsAll b noted [] = noted
+eventsAll b noted (s ∷ ws) = eventsAll (after b s) (eventsAfter b noted s) ws

@@ -12,10 +12,12 @@ use Rattle.numeric.specs.F64.{if_then_else_}
 use Rattle.refusal.specs.Refusals.{first, first-yes, rateRefused}
 use Rattle.modem.specs.declared.Role.{Role}
 use Rattle.modem.specs.Samples.{allInRange}
+use Rattle.modem.specs.Queue.{notingAll}
+use Rattle.modem.specs.Rx.{heardBy}
 use Rattle.modem.specs.RxCalls.{none-wait, never-waits, admitted-same}
 use Rattle.tide.specs.Desk.{Line, Desk, addBytes, linesIn, verdictsIn, lastOf}
 use Rattle.tide.specs.DeskLaws.{addBytes-append, linesIn-append, verdictsIn-append}
-use Rattle.board.specs.Plain.{Plain, fresh, newNumber, newOf, number, accepts, bytesOf, took, after, lines, verdicts, Answer, refused, heard, answer, afterAll, linesAll, verdictsAll, answersAll, endedIn}
+use Rattle.board.specs.Plain.{Plain, eventsAfter, fresh, newNumber, newOf, number, accepts, bytesOf, took, after, lines, verdicts, Answer, refused, heard, answer, afterAll, linesAll, verdictsAll, answersAll, endedIn}
 
 -- ---- the number of a refusal: 3, 4 or 31, the first that applies
 pub number-is : (b : Plain) (s : List Float)
@@ -79,7 +81,15 @@ pub answer-accepted : (b : Plain) (s : List Float) → number b s ≡ 0
 unfolding answer lines verdicts accepts
 answer-accepted b s e = rw (eq-eqb (number b s) 0 e) refl
 
+pub events-accepted : (b : Plain) (noted : List Bool) (s : List Float) → number b s ≡ 0 → eventsAfter b noted s ≡ notingAll noted (heardBy (b .demod) s .events)
+unfolding eventsAfter accepts
+events-accepted b noted s e = rw (eq-eqb (number b s) 0 e) refl
+
 -- refused
+pub events-refused : (b : Plain) (noted : List Bool) (s : List Float) → (number b s ≡ 0 → ⊥) → eventsAfter b noted s ≡ noted
+unfolding eventsAfter accepts
+events-refused b noted s h = rw (ne-eqb (number b s) 0 h) refl
+
 pub after-refused : (b : Plain) (s : List Float) → (number b s ≡ 0 → ⊥) → after b s ≡ b
 unfolding after accepts
 after-refused b s h = rw (ne-eqb (number b s) 0 h) refl

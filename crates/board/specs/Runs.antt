@@ -7,9 +7,9 @@ use lib.Ieee.{Float}
 use Rattle.refusal.specs.Refusals.{acceptanceOf}
 use Rattle.modem.specs.declared.Role.{Role}
 use Rattle.refusal.specs.declared.Acceptance.the-variants.{Accepted}
-use Rattle.board.specs.Plain.{Plain, Answer, refused, heard, fresh, after, answer, afterAll, answersAll, newNumber, newOf}
+use Rattle.board.specs.Plain.{Plain, eventsAfter, eventsAll, Answer, refused, heard, fresh, after, answer, afterAll, answersAll, newNumber, newOf}
 use Rattle.board.specs.Term.{Term3}
-use Rattle.board.specs.Held.{plainOf, BoardSound}
+use Rattle.board.specs.Held.{plainOf, eventsIn, BoardSound}
 use Rattle.board.specs.declared.board.Board.{Board}
 use Rattle.board.specs.declared.writes.Place.{Place}
 use Rattle.board.specs.declared.writes.Listened.{Listened}
@@ -41,6 +41,7 @@ pub record Within (p : Place) (s : List Float) : Type 0 where
 -- a write of n samples leads from p to q, and its answer's numbers stand at `at` of the answers
 pub record Stepped (p q : Place) (n : ℕ) (s : List Float) (at : ℕ) (before after′ : List ℕ) : Type 0 where
   pub state : plainOf (q .board) ≡ after (plainOf (p .board)) (take n (drop (p .read) s))
+  pub events : eventsIn (q .board) ≡ eventsAfter (plainOf (p .board)) (eventsIn (p .board)) (take n (drop (p .read) s))
   pub left : drop (q .read) s ≡ drop n (drop (p .read) s)
   pub answers : after′ ≡ take at before ++ (numbersOf (answer (plainOf (p .board)) (take n (drop (p .read) s))) ++ drop (at + 4) before)
   pub within : Within q s
@@ -50,6 +51,7 @@ pub record RunFrom (b₀ : Board) (s : List Float) (ns before : List ℕ) (r : L
   pub answer : r .answer ≡ Accepted
   pub writes : r .writes ≡ writesRun ns before
   pub state : plainOf (r .state) ≡ afterAll (plainOf b₀) (writesOf s (take (r .writes) ns))
+  pub events : eventsIn (r .state) ≡ eventsAll (plainOf b₀) (eventsIn b₀) (writesOf s (take (r .writes) ns))
   pub answers : after′ ≡ numbersAll (answersAll (plainOf b₀) (writesOf s (take (r .writes) ns))) ++ drop (4 * r .writes) before
   pub sound : BoardSound (r .state)
 
@@ -60,12 +62,14 @@ pub record Runs (b₀ : Plain) (s : List Float) (ns before : List ℕ) (r : List
   pub said : List Answer
   pub term : Term3 b₀ (writesOf s (take (r .writes) ns)) (plainOf (r .state)) said
   pub answers : after′ ≡ numbersAll said ++ drop (4 * r .writes) before
+  pub events : eventsIn (r .state) ≡ eventsAll b₀ [] (writesOf s (take (r .writes) ns))
 
 -- nothing is run, the state is what `new` gives, and the answers are as they were
 pub record NotRun (b₀ : Plain) (before : List ℕ) (r : Listened) (after′ : List ℕ) : Type 0 where
   pub writes : r .writes ≡ 0
   pub state : plainOf (r .state) ≡ b₀
   pub answers : after′ ≡ before
+  pub events : eventsIn (r .state) ≡ []
 
 -- `new`, and where it refuses nothing the list of writes
 pub record Listens (rate station : ℕ) (role : Role) (s : List Float) (ns before : List ℕ) (r : Listened) (after′ : List ℕ) : Type 0 where

@@ -1,7 +1,7 @@
 -- Calls, one after the other, over lists. Assumes nothing.
 use Prim.Native.Nat.{ℕ, zero, suc, min, _+_, _*_, _-_, _<_, _≤_, zero-le}
-use mathlib.Core.Path.{_≡_, refl, sym, ap, _∙_}
-use mathlib.Core.Bool.{Bool, true, false}
+use mathlib.Core.Path.{_≡_, refl, sym, ap}
+use mathlib.Core.Bool.{true, false}
 use mathlib.Core.List.{List, [], _∷_, _++_, append-assoc}
 use native.Mathlib.Nat.{add-zero, zero-add, add-assoc}
 use native.Mathlib.Numerals.{add-one}
@@ -9,11 +9,11 @@ use native.Mathlib.Omega.{arith}
 use lib.ListN.{length, getD, take, drop, length-append, length-drop, take-append-drop}
 use lib.Seq.{drop-cons, length-take-le}
 use lib.Ieee.{Float}
-use Rattle.numeric.specs.F64.{if_then_else_}
 use Rattle.refusal.specs.Refusals.{Reply, given, refused, ratesRefused}
 use Rattle.resampling.specs.Resample.{State, fresh, Made, made, newOf, Ran, Outcome, outcome, laid, unlessRefused, refusalOf, ranOver, lenOf, processed}
 use Rattle.resampling.specs.ResampleHeld.{stateOf, Sound}
 use Rattle.resampling.specs.declared.resample.Resampler.{Resampler}
+use Rattle.ffi.proofs.Made.{accepted-only, refused-only}
 use Rattle.ffi.proofs.Parts.{take-behind, drop-behind, next-two, part-next, part-left, rest-is, rest-put}
 use Rattle.ffi.specs.Answers.{numberIn, countIn, told}
 use Rattle.ffi.specs.declared.answers.Told.{Told}
@@ -164,22 +164,8 @@ module _ (p : Place) (n e : ℕ) (xs out : List Float) (at-p : Within p xs out) 
 module _ (src dst : ℕ) (s : State) where
   pub rates-accepted : made (given tt) s ≡ newOf src dst → (ratesRefused src dst ≡ false) × (s ≡ fresh src dst)
   unfolding newOf
-  rates-accepted e = by (ratesRefused src dst) e
-    where
-      by : (b : Bool) → made (given tt) s ≡ (if b then made (refused 1) (fresh 8000 8000) else made (given tt) (fresh src dst)) → (b ≡ false) × (s ≡ fresh src dst)
-      by true e =
-          let a = ap (λ (m : Made). m .answer) e in
-          let z : _≡_ {A = ℕ} 0 1 = cc in
-          absurd (omega arith)
-      by false e = (refl, ap (λ (m : Made). m .state) e)
+  rates-accepted e = accepted-only (λ (m : Made). m .answer) (λ (m : Made). m .state) _ _ _ (ratesRefused src dst) refl refl e
 
   pub rates-refused : (k : ℕ) → made (refused k) s ≡ newOf src dst → ratesRefused src dst ≡ true
   unfolding newOf
-  rates-refused k e = by (ratesRefused src dst) e
-    where
-      by : (b : Bool) → made (refused k) s ≡ (if b then made (refused 1) (fresh 8000 8000) else made (given tt) (fresh src dst)) → b ≡ true
-      by true e = refl
-      by false e =
-          let a = ap (λ (m : Made). m .answer) e in
-          let z : _≡_ {A = ℕ} 0 1 = cc in
-          absurd (omega arith)
+  rates-refused k e = refused-only (λ (m : Made). m .answer) k _ _ _ (ratesRefused src dst) refl refl e

@@ -1,12 +1,12 @@
 -- Parts of lists, as the code lends them. Assumes nothing.
-use Prim.Native.Nat.{ℕ, zero, suc, min, _+_, _-_, _<_, _≤_}
-use mathlib.Core.Path.{_≡_, refl, sym, ap, _∙_}
+use Prim.Native.Nat.{ℕ, zero, suc, min, _+_, _-_, _≤_}
+use mathlib.Core.Path.{_≡_, ap, _∙_}
 use mathlib.Core.List.{List, [], _∷_, _++_, append-nil, append-assoc}
 use native.Mathlib.Nat.{zero-min, min-zero, suc-min-suc}
 use native.Mathlib.Numerals.{add-one}
 use native.Mathlib.Omega.{arith}
-use lib.ListN.{length, getD, set, take, drop, length-drop, drop-of-length-le}
-use lib.Seq.{drop-drop, take-length, take-append-add, drop-append-add, drop-cons, sets-eq}
+use lib.ListN.{length, getD, set, take, drop, length-append, length-drop, take-append-drop, drop-of-length-le}
+use lib.Seq.{drop-drop, length-take-le, take-length, take-append-add, drop-append-add, take-append-seam, drop-append-seam, drop-append-le, drop-cons, sets-eq}
 
 module _ {A : Type 0} where
   -- the next n of a list, or what is left of it
@@ -46,6 +46,21 @@ module _ {A : Type 0} where
     pub drop-behind : drop (at + k) (front ++ l) ≡ drop k l
     drop-behind = rw (← is) (drop-append-add front l k)
 
+  -- another list in the front of a part of m elements
+  pub part-put : (front l : List A) (k m : ℕ) → k ≤ length (take m l) → front ++ drop k (take m l) ++ drop m l ≡ front ++ drop k l
+  part-put front l k m h = rw (append-assoc front, ← drop-append-le k (take m l) (drop m l) h, take-append-drop m l)
+
+  -- new elements behind the first `at` of a list
+  module _ (l new behind : List A) (at : ℕ) (fits : at ≤ length l) where
+    pub put-front : take (at + length new) (take at l ++ (new ++ behind)) ≡ take at l ++ new
+    put-front = rw (take-behind (take at l) (new ++ behind) at (length new) (length-take-le at l fits), take-append-seam new behind)
+
+    pub put-behind : drop (at + length new) (take at l ++ (new ++ behind)) ≡ behind
+    put-behind = rw (drop-behind (take at l) (new ++ behind) at (length new) (length-take-le at l fits), drop-append-seam new behind)
+
+    pub put-within : at + length new ≤ length (take at l ++ (new ++ behind))
+    put-within = rw (length-append (take at l), length-take-le at l fits, length-append new) (omega arith)
+
   -- the next two elements
   pub next-two : (d : A) (l : List A) (at : ℕ) → at + 2 ≤ length l → drop at l ≡ getD l at d ∷ getD l (suc at) d ∷ drop (at + 2) l
   next-two d l at h =
@@ -55,3 +70,12 @@ module _ {A : Type 0} where
   -- two stores
   pub set-two : (l : List A) (at : ℕ) (x y : A) → at + 2 ≤ length l → set (set l at x) (at + 1) y ≡ take at l ++ (x ∷ y ∷ drop (at + 2) l)
   set-two l at x y h = rw add-one (sets-eq (x ∷ y ∷ []) l at h ∙ append-assoc (take at l) (x ∷ y ∷ []) (drop (at + 2) l))
+
+  -- five stores
+  pub set-five : (l : List A) (at : ℕ) (a b c d e : A) → at + 5 ≤ length l
+      → set (set (set (set (set l at a) (at + 1) b) (at + 2) c) (at + 3) d) (at + 4) e ≡ take at l ++ ((a ∷ b ∷ c ∷ d ∷ e ∷ []) ++ drop (at + 5) l)
+  set-five l at a b c d e h =
+      let two : at + 2 ≡ suc (suc at) = omega arith in
+      let three : at + 3 ≡ suc (suc (suc at)) = omega arith in
+      let four : at + 4 ≡ suc (suc (suc (suc at))) = omega arith in
+      rw (add-one, two, three, four) (sets-eq (a ∷ b ∷ c ∷ d ∷ e ∷ []) l at h ∙ append-assoc (take at l) (a ∷ b ∷ c ∷ d ∷ e ∷ []) (drop (at + 5) l))

@@ -2,3 +2,7 @@
 pub mod Answers
 pub mod Resample
 pub mod Steps
+pub mod Receive
+pub mod ReceiveSteps
+pub mod ReceiverState
+pub mod StateSteps

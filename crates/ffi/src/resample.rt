@@ -1,12 +1,13 @@
 // The resampler, exported to C.
-use crate::answers::calls_in;
 use crate::answers::tell;
 use crate::answers::told_of;
+use crate::ends::part_end;
+use crate::ends::smaller;
 use refusal::Acceptance;
 use resampling::resample::Resampler;
 ghost use mathlib.Core.Path.{_≡_};
 ghost use mathlib.Core.List.{[], _++_};
-ghost use Prim.Native.Nat.{min, _+_, _*_, _-_, _≤_, _<_};
+ghost use Prim.Native.Nat.{_+_, _*_, _≤_};
 ghost use lib.ListN.{length, take, drop};
 ghost use Rattle.resampling.specs.Resample.{lenOf};
 ghost use Rattle.resampling.specs.ResampleHeld.{stateOf, Sound};
@@ -30,7 +31,7 @@ fn all_lengths(state: Resampler, lengths: &[u32], answers: &mut [u64]) -> usize
     requires { ⌜ Sound state ⌝ }
     ensures { λ r. ⌜ ran r [] (now (answers .exit)) ≡ lengthsFrom (stateOf state) (now (lengths .entry)) (now (answers .entry)) ⌝ }
 {
-    let calls = calls_in(lengths.len(), answers.len());
+    let calls = smaller(lengths.len(), answers.len() / 2);
     let mut i = 0;
     while i < calls {
         one_length(state, lengths[i], answers, 2 * i);
@@ -64,15 +65,6 @@ struct Place {
     state: Resampler,
     read: usize,
     written: usize,
-}
-
-// The end of the next samples, or of all of them.
-fn part_end(from: usize, samples: u32, all: usize) -> usize
-    requires { ⌜ from ≤ all ⌝ }
-    ensures { λ r. ⌜ (r ≡ from + min samples (all - from)) × (from ≤ r) × (r ≤ all) ⌝ }
-{
-    let n = samples as usize;
-    if n < all - from { from + n } else { all }
 }
 
 // One call, and its two numbers at `at` of the answers.
@@ -115,7 +107,7 @@ fn all_calls(
     requires { ⌜ Sound state ⌝ }
     ensures { λ r. ⌜ ran r (now (output .exit)) (now (answers .exit)) ≡ processedFrom (stateOf state) (now (input .entry)) (now (lengths .entry)) (now (output .entry)) (now (answers .entry)) ⌝ }
 {
-    let calls = calls_in(lengths.len(), answers.len());
+    let calls = smaller(lengths.len(), answers.len() / 2);
     let mut place = Place {
         state,
         read: 0,

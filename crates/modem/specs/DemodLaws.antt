@@ -17,7 +17,7 @@ use Rattle.numeric.specs.Fold.{fold}
 use Rattle.numeric.specs.Tested.{at-number}
 use Rattle.framing.specs.Frame.{withBit, idleBit, dataBit, stopBit, badStop, pushBit, push-idle, push-data, push-stop, bytesOf, heard, after}
 use Rattle.framing.specs.Framing.{AreBytes, held, heard-append, after-append, heard-few, heard-few-any}
-use Rattle.modem.specs.Demod.{Step, places, advanced, eventOf, sliced, fedCore, fed, finished, decoded, stepOf, freshDemodulator, Hearing, before, hearing, reported, Tuned}
+use Rattle.modem.specs.Demod.{Step, places, multiplied, advanced, eventOf, sliced, fedCore, fed, finished, decoded, stepOf, freshDemodulator, Hearing, before, hearing, reported, Tuned}
 use Rattle.modem.specs.Queue.{eventsOf}
 use Rattle.modem.specs.declared.Role.{Role}
 use Rattle.framing.specs.declared.frame.Deframer.{Deframer}
@@ -52,6 +52,11 @@ module _ (d : Demodulator) (s : Float) where
   pub corr-after : stepOf d s .state .core .corr ≡ advanced (d .core .corr)
   unfolding fedCore finished
   corr-after = by-cases (λ x. x .state .core .corr ≡ advanced (d .core .corr)) refl refl
+
+  -- each ring has the sample's product at that place
+  pub rings-after : stepOf d s .state .rings ≡ multiplied (d .rings) (d .core .corr) s
+  unfolding fedCore finished
+  rings-after = by-cases (λ x. x .state .rings ≡ multiplied (d .rings) (d .core .corr) s) refl refl
 
 -- ---- the deframer, bit by bit
 -- n samples: the deframer before them, after them, and the bytes of at most n bits that the samples were sliced to

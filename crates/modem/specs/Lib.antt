@@ -9,6 +9,7 @@ pub mod QueueLaws
 pub mod Samples
 pub mod Demod
 pub mod DemodLaws
+pub mod Summing
 pub mod Rx
 pub mod RxHeld
 pub mod RxLaws

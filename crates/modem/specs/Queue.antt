@@ -67,6 +67,10 @@ pub record Drains (q : Bytes) (before : List ℕ) (r : Drained) (after : List �
 abbrev pub mostEvents : ℕ
 mostEvents = 64
 
+-- the queue of an array and a count
+abbrev pub eventsIn : List Bool → ℕ → Events
+eventsIn held n = record { held = held; count = n }
+
 -- the events that wait: the first `count`
 abbrev pub noted : Events → List Bool
 noted q = take (q .count) (q .held)

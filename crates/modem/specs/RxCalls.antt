@@ -12,7 +12,7 @@ use lib.Ieee.{Float}
 use Rattle.numeric.specs.F64.{if_then_else_}
 use Rattle.refusal.specs.Refusals.{dspRate, given, refused, first, first-yes, first-no, numberOf, acceptanceOf, replyOf, rateRefused}
 use Rattle.modem.specs.Samples.{allInRange}
-use Rattle.modem.specs.Queue.{mostBytes}
+use Rattle.modem.specs.Queue.{mostBytes, notingAll}
 use Rattle.modem.specs.QueueLaws.{queued-length}
 use Rattle.resampling.specs.ResampleHeld.{stateOf}
 use Rattle.modem.specs.Rx.{Receiver, receiver, heardBy, freshReceiver, freshDemod, made, newOf, refusedBy, refusalOf, acceptedBy, Written, wrote, written, unlessRefused, ReadOut, readOut, readOf}
@@ -81,6 +81,7 @@ pub record Accepts (r : Receiver) (xs : List Float) (after : Receiver) : Type 0 
   pub number : refusalOf r xs ≡ 0
   pub demod : after .demod ≡ heardBy (r .demod) xs .after
   pub waiting : after .waiting ≡ r .waiting ++ heardBy (r .demod) xs .bytes
+  pub noted : after .noted ≡ notingAll (r .noted) (heardBy (r .demod) xs .events)
   pub accepted : after .accepted ≡ r .accepted + length xs
 
 -- refused: its number, which is not 0, and nothing changed
@@ -101,6 +102,7 @@ module _ (r : Receiver) (xs : List Float) (after : Receiver) where
             number = z;
             demod = ap (λ (x : Receiver). x .demod) s;
             waiting = ap (λ (x : Receiver). x .waiting) s;
+            noted = ap (λ (x : Receiver). x .noted) s;
             accepted = ap (λ (x : Receiver). x .accepted) s;
           }
       by (suc k) z e =
@@ -142,6 +144,7 @@ pub record ReadsAll (r : Receiver) (n : ℕ) (after : Receiver) (buf : List ℕ)
   pub bytes : take n buf ≡ r .waiting
   pub demod : after .demod ≡ r .demod
   pub waiting : after .waiting ≡ []
+  pub noted : after .noted ≡ r .noted
   pub accepted : after .accepted ≡ r .accepted
 
 pub reads-all : (r : Receiver) (count : ℕ) (after : Receiver) (buf buf′ : List ℕ) → length (r .waiting) ≤ length buf
@@ -157,5 +160,6 @@ reads-all r count after buf buf′ h e =
       bytes = rw (c, b) (take-append-seam w (drop (length w) buf));
       demod = ap (λ (o : ReadOut). o .state .demod) e;
       waiting = ap (λ (o : ReadOut). o .state .waiting) e ∙ rw (m, drop-length w) refl;
+      noted = ap (λ (o : ReadOut). o .state .noted) e;
       accepted = ap (λ (o : ReadOut). o .state .accepted) e;
     }

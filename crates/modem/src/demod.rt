@@ -11,18 +11,19 @@ use framing::frame::Deframer;
 use framing::frame::Heard;
 use framing::frame::Pushed;
 use numeric::compare::absolute;
-use numeric::root::root;
+use numeric::root::roots;
 use numeric::sine::TAU;
 use numeric::sine::cosine;
 use numeric::sine::sine;
 use refusal::DSP_RATE;
 ghost use mathlib.Core.Path.{_≡_};
-ghost use Prim.Native.Nat.{_<_};
+ghost use Prim.Native.Nat.{_<_, _≤_};
 ghost use lib.ListN.{set};
 ghost use Rattle.numeric.specs.F64.{_⊗_};
 ghost use Rattle.numeric.specs.Sine.{sineOf, cosineOf};
-ghost use Rattle.modem.specs.Demod.{magnitudeOf, decisionOf, advanced, freshCorrelator, errorOf, movedBy, crossed, bounded, ticked, freshTiming};
+ghost use Rattle.modem.specs.Demod.{decisionOf, advanced, freshCorrelator, errorOf, movedBy, crossed, bounded, ticked, freshTiming};
 ghost use Rattle.modem.specs.Demod.{gateAfter, latched, eventOf, sliced, ringsOf, demodulator, fedCore, finished, stepWith, stepOf, freshDemodulator, reported, Tuned};
+ghost use Rattle.modem.specs.Summing.{Summed, noSums, withPlace, nextPlace};
 
 // The products of the last 27 samples, one symbol, with each tone in quadrature. A new product takes the oldest one's place.
 pub struct Rings {
@@ -51,17 +52,90 @@ fn multiply(i: &mut [f64; 27], q: &mut [f64; 27], pos: usize, phase: f64, s: f64
     q[pos] = s * sine(phase);
 }
 
-// How much of one tone the last symbol has: its sums are the matched filter.
-fn magnitude(i: [f64; 27], q: [f64; 27]) -> f64
-    ensures { λ r. ⌜ r ≡ magnitudeOf i q ⌝ }
+// The rings' sums over their first places, in place order; over all places they are the matched filter.
+// A sample changes one place of each ring, so the sums over the places before it are carried from sample to sample.
+pub struct Sums {
+    pub mark_i: f64,
+    pub mark_q: f64,
+    pub space_i: f64,
+    pub space_q: f64,
+}
+
+// Sums over one place more.
+fn with_place(p: Sums, mark_i: f64, mark_q: f64, space_i: f64, space_q: f64) -> Sums
+    ensures { λ r. ⌜ r ≡ withPlace p «mark_i» «mark_q» «space_i» «space_q» ⌝ }
 {
-    let mut si = 0.0;
-    let mut sq = 0.0;
-    for k in 0..27usize {
-        si = si + i[k];
-        sq = sq + q[k];
+    Sums {
+        mark_i: p.mark_i + mark_i,
+        mark_q: p.mark_q + mark_q,
+        space_i: p.space_i + space_i,
+        space_q: p.space_q + space_q,
     }
-    root(si, sq)
+}
+
+fn no_sums() -> Sums
+    ensures { λ r. ⌜ r ≡ noSums ⌝ }
+{
+    Sums {
+        mark_i: 0.0,
+        mark_q: 0.0,
+        space_i: 0.0,
+        space_q: 0.0,
+    }
+}
+
+// From the sums over the first `from` places to those over the first `to`.
+fn sums_on(
+    mark_i: &[f64; 27],
+    mark_q: &[f64; 27],
+    space_i: &[f64; 27],
+    space_q: &[f64; 27],
+    from: usize,
+    to: usize,
+    sums: Sums,
+) -> Sums
+    requires { ⌜ (from ≤ to) × (to ≤ 27) × Summed from (ringsOf (now «mark_i») (now «mark_q») (now «space_i») (now «space_q»)) sums ⌝ }
+    ensures { λ r. ⌜ Summed to (ringsOf (now («mark_i» .entry)) (now («mark_q» .entry)) (now («space_i» .entry)) (now («space_q» .entry))) r ⌝ }
+{
+    let mut p = sums;
+    let mut k = from;
+    while k < to {
+        p = with_place(p, mark_i[k], mark_q[k], space_i[k], space_q[k]);
+        k += 1;
+    }
+    p
+}
+
+// The sums over the places before pos, from nothing.
+pub fn sums_before(
+    mark_i: [f64; 27],
+    mark_q: [f64; 27],
+    space_i: [f64; 27],
+    space_q: [f64; 27],
+    pos: usize,
+) -> Sums
+    requires { ⌜ pos < 27 ⌝ }
+    ensures { λ r. ⌜ Summed pos (ringsOf «mark_i» «mark_q» «space_i» «space_q») r ⌝ }
+{
+    sums_on(&mark_i, &mark_q, &space_i, &space_q, 0, pos, no_sums())
+}
+
+// The sums for the next sample: over the places before the one after pos.
+pub fn next_sums(
+    mark_i: &[f64; 27],
+    mark_q: &[f64; 27],
+    space_i: &[f64; 27],
+    space_q: &[f64; 27],
+    pos: usize,
+    sums: Sums,
+) -> Sums
+    requires { ⌜ (pos < 27) × Summed pos (ringsOf (now «mark_i») (now «mark_q») (now «space_i») (now «space_q»)) sums ⌝ }
+    ensures { λ r. ⌜ Summed (nextPlace pos) (ringsOf (now («mark_i» .entry)) (now («mark_q» .entry)) (now («space_i» .entry)) (now («space_q» .entry))) r ⌝ }
+{
+    if pos < 26 {
+        return with_place(sums, mark_i[pos], mark_q[pos], space_i[pos], space_q[pos]);
+    }
+    no_sums()
 }
 
 // The soft decision, positive for mark; and the energy, which the difference throws away.
@@ -341,16 +415,17 @@ impl Core {
         }
     }
 
-    // One sample, the rings lent.
+    // One sample, the rings lent, with their sums over the places before the sample's.
     pub fn step(
         self,
         mark_i: &mut [f64; 27],
         mark_q: &mut [f64; 27],
         space_i: &mut [f64; 27],
         space_q: &mut [f64; 27],
+        sums: Sums,
         s: f64,
     ) -> CoreStep
-        requires { ⌜ self .corr .pos < 27 ⌝ }
+        requires { ⌜ (self .corr .pos < 27) × Summed (self .corr .pos) (ringsOf (now «mark_i») (now «mark_q») (now «space_i») (now «space_q»)) sums ⌝ }
         ensures { λ r. ⌜ stepWith (ringsOf (now («mark_i» .exit)) (now («mark_q» .exit)) (now («space_i» .exit)) (now («space_q» .exit))) r
             ≡ stepOf (demodulator (ringsOf (now («mark_i» .entry)) (now («mark_q» .entry)) (now («space_i» .entry)) (now («space_q» .entry))) self) s ⌝ }
     {
@@ -365,7 +440,9 @@ impl Core {
                 event: Event::Nothing,
             };
         }
-        let o = decide(magnitude(*mark_i, *mark_q), magnitude(*space_i, *space_q));
+        let t = sums_on(mark_i, mark_q, space_i, space_q, corr.pos, 27, sums);
+        let m = roots(t.mark_i, t.mark_q, t.space_i, t.space_q);
+        let o = decide(m.first, m.second);
         let detector = fed.carrier;
         let report = fed.latch;
         let carrier = detector.update(o.energy);

@@ -6,7 +6,7 @@ ghost use Prim.Native.Nat.{_+_, _≤_, _<_, min};
 ghost use lib.ListN.{length, take, drop};
 ghost use Rattle.framing.specs.Frame.{bytesOf};
 ghost use Rattle.modem.specs.Queue.{BytesHeld, BytesWait, Kept, Moved, Drains};
-ghost use Rattle.modem.specs.Queue.{EventsHeld, EventsWait, noted, noting, notingAll, eventsOf, eventOf, Pops};
+ghost use Rattle.modem.specs.Queue.{EventsHeld, EventsWait, eventsIn, noted, noting, notingAll, eventsOf, eventOf, Pops};
 
 // Received bytes: the first `count` wait.
 pub struct Bytes {
@@ -122,15 +122,41 @@ fn no_events() -> [bool; 64] {
 }
 
 // Each event one place to the front; the first is dropped.
-fn without_oldest(held: [bool; 64]) -> [bool; 64]
-    ensures { λ r. ⌜ Moved 1 63 held r ⌝ }
+fn drop_oldest(held: &mut [bool; 64])
+    requires { ⌜ length (now held) ≡ 64 ⌝ }
+    ensures { λ _. ⌜ Moved 1 63 (now (held .entry)) (now (held .exit)) ⌝ }
 {
-    let mut a = held;
-    for i in 0..63usize {
-        let e = a[i + 1];
-        a[i] = e;
+    let mut i = 0;
+    while i < 63 {
+        held[i] = held[i + 1];
+        i += 1;
     }
-    a
+}
+
+// One more event. Where 64 wait, the oldest is dropped. Answers how many wait.
+fn note_at(held: &mut [bool; 64], n: usize, up: bool) -> usize
+    requires { ⌜ EventsHeld (eventsIn (now held) n) ⌝ }
+    ensures { λ r. ⌜ EventsWait (eventsIn (now (held .exit)) r) (noting (noted (eventsIn (now (held .entry)) n)) up) ⌝ }
+{
+    if n < 64 {
+        held[n] = up;
+        return n + 1;
+    }
+    drop_oldest(held);
+    held[63] = up;
+    64
+}
+
+// The event that a step brought, if it did. The array is lent, as that of the bytes is.
+pub fn note_into(held: &mut [bool; 64], n: usize, event: Event) -> usize
+    requires { ⌜ EventsHeld (eventsIn (now held) n) ⌝ }
+    ensures { λ r. ⌜ EventsWait (eventsIn (now (held .exit)) r) (notingAll (noted (eventsIn (now (held .entry)) n)) (eventsOf event)) ⌝ }
+{
+    match event {
+        Event::Nothing => n,
+        Event::CarrierUp => note_at(held, n, true),
+        Event::CarrierDown => note_at(held, n, false),
+    }
 }
 
 // The carrier went up, or down.
@@ -152,35 +178,6 @@ impl Events {
         Events { held, count: 0 }
     }
 
-    // One more event. Where 64 wait, the oldest is dropped.
-    pub fn note(self, up: bool) -> Events
-        requires { ⌜ EventsHeld self ⌝ }
-        ensures { λ r. ⌜ EventsWait r (noting (noted self) up) ⌝ }
-    {
-        let h = self.held;
-        let n = self.count;
-        if n < 64 {
-            let mut held = h;
-            held[n] = up;
-            return Events { held, count: n + 1 };
-        }
-        let mut held = without_oldest(h);
-        held[63] = up;
-        Events { held, count: 64 }
-    }
-
-    // The event that a step brought, if it did.
-    pub fn note_event(self, event: Event) -> Events
-        requires { ⌜ EventsHeld self ⌝ }
-        ensures { λ r. ⌜ EventsWait r (notingAll (noted self) (eventsOf event)) ⌝ }
-    {
-        match event {
-            Event::Nothing => self,
-            Event::CarrierUp => self.note(true),
-            Event::CarrierDown => self.note(false),
-        }
-    }
-
     // Takes the oldest event off, if there is one.
     pub fn next(self) -> NextEvent
         requires { ⌜ EventsHeld self ⌝ }
@@ -195,7 +192,8 @@ impl Events {
             };
         }
         let event = event_of(h[0]);
-        let held = without_oldest(h);
+        let mut held = h;
+        drop_oldest(&mut held);
         let state = Events { held, count: n - 1 };
         NextEvent { state, event }
     }

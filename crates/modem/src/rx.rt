@@ -3,10 +3,13 @@ use crate::Role;
 use crate::demod::Core;
 use crate::demod::Demodulator;
 use crate::demod::Rings;
+use crate::demod::next_sums;
+use crate::demod::sums_before;
 use crate::queue::Bytes;
 use crate::queue::Event;
 use crate::queue::Events;
 use crate::queue::keep_heard;
+use crate::queue::note_into;
 use crate::samples::all_in_range;
 use crate::samples::widen_into;
 use refusal::Acceptance;
@@ -146,21 +149,27 @@ fn hear(d: Demodulator, samples: &[f64], held: &mut [u8; 512], from: usize, ev: 
     let mut space_i = rings.space_i;
     let mut space_q = rings.space_q;
     let mut core = d.core;
+    let corr = core.corr;
+    let mut sums = sums_before(mark_i, mark_q, space_i, space_q, corr.pos);
     let mut count = from;
-    let mut events = ev;
+    let mut noted = ev.held;
+    let mut notes = ev.count;
     let mut i = 0;
     while i < samples.len() {
+        let place = core.corr;
         let t = core.step(
             &mut mark_i,
             &mut mark_q,
             &mut space_i,
             &mut space_q,
+            sums,
             samples[i],
         );
+        sums = next_sums(&mark_i, &mark_q, &space_i, &space_q, place.pos, sums);
         let heard = t.heard;
         let event = t.event;
         count = keep_heard(held, count, heard);
-        events = events.note_event(event);
+        notes = note_into(&mut noted, notes, event);
         core = t.core;
         i += 1;
     }
@@ -171,6 +180,10 @@ fn hear(d: Demodulator, samples: &[f64], held: &mut [u8; 512], from: usize, ev: 
         space_q,
     };
     let demod = Demodulator { rings, core };
+    let events = Events {
+        held: noted,
+        count: notes,
+    };
     HeardAll {
         demod,
         count,

@@ -1,14 +1,17 @@
--- The sum of two squares has no minus sign, so half its bits and 1FF8000000000000 are the bits of a number. Assumes nothing.
-use Prim.Native.Nat.{ℕ, _+_, _/_, _^_, _<_}
-use mathlib.Core.Path.{_≡_}
-use mathlib.Core.Bool.{true, false, not}
+-- The sum of two squares has no minus sign, so half its bits and 1FF8000000000000 are the bits of a number; and its root where it is above 0.0.
+-- Assumes nothing.
+use Prim.Native.Nat.{ℕ, _+_, _*_, _/_, _^_, _<_}
+use mathlib.Core.Path.{_≡_, refl, sym, ap, subst, _∙_}
+use mathlib.Core.Bool.{Bool, true, false, not, _&&_, true≢false, false≢true}
 use native.Mathlib.Omega.{arith}
-use lib.Dec.{T}
-use lib.Ieee.{Float, nan, inf, fin, Format, binary64, nanBits, add, mul, ne, sum}
+use lib.Dec.{T, eqb, ltb}
+use lib.Ieee.{Float, nan, inf, fin, Format, binary64, nanBits, add, mul, ne, lt, eq, sum, up, down, ofBits}
+use lib.Ieee.Compare.{differs-from-itself}
 use lib.Ieee.Fits.{add-fits}
-use Rattle.numeric.specs.F64.{_⊗_, bits}
+use borrow.Author.Tests.{ltb-true, ne-eqb}
+use Rattle.numeric.specs.F64.{_⊗_, _<ᶠ_, _=ᶠ_, bits, zero64}
 use Rattle.numeric.specs.Whole.{noMinus, round-noMinus, not-nan}
-use Rattle.numeric.specs.Root.{squares}
+use Rattle.numeric.specs.Root.{squares, guess, improved, rootOf}
 use Rattle.numeric.proofs.Bits.{number-bits, bits-lt}
 
 square-noMinus : (f : Format) (x : Float) → T (noMinus (mul f x x))
@@ -39,3 +42,38 @@ squares-lt a b h =
 
 pub guess-number : (n : ℕ) → n < 2 ^ 63 → T (not (nanBits binary64 (n / 2 + 0x1FF8_0000_0000_0000)))
 guess-number n h = number-bits binary64 (n / 2 + 0x1FF8_0000_0000_0000) (omega arith)
+
+-- ---- above 0.0
+nan-not-above : zero64 <ᶠ nan ≡ false
+unfolding lt ofBits
+nan-not-above = refl
+
+number-by : (v : Float) (t : Bool) → ne v v ≡ t → zero64 <ᶠ v ≡ true → t ≡ false
+number-by v false e h = refl
+number-by v true e h =
+    let n : v ≡ nan = differs-from-itself v (subst T (sym e) tt) in
+    absurd (true≢false (sym h ∙ ap (λ (x : Float). zero64 <ᶠ x) n ∙ nan-not-above))
+
+-- it is a number
+pub above-number : (v : Float) → zero64 <ᶠ v ≡ true → ne v v ≡ false
+above-number v h = number-by v (ne v v) refl h
+
+unlike : (a d : ℕ) (b : Bool) → ltb (0 * d) a ≡ true → (eqb a (0 * d) && b) ≡ false
+unlike a d b h = rw (ne-eqb a (0 * d) (λ e. omega (arith, ltb-true (0 * d) a h, e)))
+
+-- it is not 0.0
+pub above-not-zero : (v : Float) → zero64 <ᶠ v ≡ true → v =ᶠ zero64 ≡ false
+unfolding lt eq ofBits
+above-not-zero nan h = refl
+above-not-zero (inf s) h = refl
+above-not-zero (fin true m e) h = absurd (false≢true h)
+above-not-zero (fin false m e) h = unlike (m * up e * 1) (down e) _ h
+
+-- what the first guess asks, and the root after five steps from it
+module _ (a b : Float) (h : zero64 <ᶠ squares a b ≡ true) where
+  pub guess-asks : (ne (squares a b) (squares a b) ≡ false) × (bits (squares a b) < 2 ^ 63)
+  guess-asks = let n = above-number (squares a b) h in (n, squares-lt a b n)
+
+  pub root-above : (g : Float) → g ≡ guess (squares a b) → improved 5 (squares a b) g ≡ rootOf a b
+  unfolding rootOf
+  root-above g e = rw (e, above-not-zero (squares a b) h)

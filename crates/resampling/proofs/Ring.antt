@@ -8,12 +8,12 @@ use native.Mathlib.Numerals.{add-one}
 use native.Mathlib.Omega.{arith}
 use borrow.Author.Tests.{eq-eqb, lt-leb, le-leb}
 use lib.Dec.{leb, eqb, eqb·suc-zero}
-use lib.ListN.{length, getD, set, take, drop, replicate, getD-replicate, drop-of-length-le}
+use lib.ListN.{length, getD, set, take, drop, replicate, getD-replicate, length-set, drop-of-length-le}
 use lib.Seq.{getD-set-same, getD-set-other, getD-take, drop-cons, length-take-le}
 use lib.Ieee.{Float, nan}
-use Rattle.numeric.specs.F64.{_⊕_, _⊗_, if_then_else_}
+use Rattle.numeric.specs.F64.{_⊕_, _⊗_, if_then_else_, zero64}
 use Rattle.resampling.specs.Resample.{sumFrom, filtered, newest}
-use Rattle.resampling.specs.ResampleHeld.{ringBack, ringNext, walk, historyOf}
+use Rattle.resampling.specs.ResampleHeld.{ringBack, ringNext, walk, historyOf, Placed, Filtered}
 
 -- ---- places
 back-suc : (n i : ℕ) → ringBack n (suc i) ≡ i
@@ -39,6 +39,11 @@ back-next n pos h = ⊎-elim at-end on (eq-or-lt-of-le h)
 
     on : suc pos < n → ringBack n (if leb n (pos + 1) then 0 else pos + 1) ≡ pos
     on l = rw (lt-leb n (pos + 1) (omega arith)) (ap (ringBack n) (add-one pos) ∙ back-suc n pos)
+
+-- the history reads back from the place before the next one's
+pub history-next : (n pos : ℕ) (ring : List Float) → pos < n → historyOf n (ringNext n pos) ring ≡ walk n n pos ring
+unfolding historyOf
+history-next n pos ring h = rw (back-next n pos h)
 
 -- ---- a stored sample
 module _ (n pos : ℕ) (x : Float) (ring : List Float) where
@@ -96,8 +101,18 @@ module _ (n pos : ℕ) (x : Float) (ring : List Float) (h : pos < n) (l : n ≤ 
   walk-stored = walk-newest n pos x ring h l
 
   pub history-stored : historyOf n (ringNext n pos) (set ring pos x) ≡ newest x (historyOf n pos ring)
-  unfolding historyOf
-  history-stored = rw (back-next n pos h) (walk-newest n pos x ring h l)
+  history-stored = history-next n pos (set ring pos x) h ∙ walk-stored
+
+-- one sample went in and through the filter
+pub went-in : (n pos : ℕ) (taps ring : List Float) (x y : Float) → Placed n pos taps ring → y ≡ filtered (take n taps) (walk n n pos (set ring pos x))
+    → Filtered n pos taps x ring (set ring pos x) y
+went-in n pos taps ring x y p e =
+    let l : n ≤ length ring = omega (arith, p .high, p .ring-long) in
+    record {
+      history = history-stored n pos x ring (p .within) l;
+      value = e ∙ ap (filtered (take n taps)) (walk-stored n pos x ring (p .within) l);
+      long = length-set ring pos x ∙ p .ring-long;
+    }
 
 -- ---- an empty ring
 back-within : (n idx : ℕ) → idx < n → ringBack n idx < n
@@ -131,3 +146,14 @@ module _ (taps ring : List Float) (n i idx : ℕ) (acc : Float) (fits : n ≤ le
   sum-done h =
       let l : length (take n taps) ≡ n = length-take-le n taps fits in
       rw (drop-of-length-le (take n taps) {i = i} (omega arith))
+
+-- the sum with one sample more than the ring has: its first term is that sample's
+pub sum-later : (taps ring : List Float) (n pos : ℕ) (x : Float) → n ≤ length taps → 0 < n
+    → sumFrom (zero64 ⊕ getD taps 0 nan ⊗ x) (drop (0 + 1) (take n taps)) (walk (n - (0 + 1)) n pos ring) ≡ filtered (take n taps) (newest x (walk n n pos ring))
+unfolding filtered sumFrom
+sum-later taps ring zero pos x l h = absurd (omega arith)
+sum-later [] ring (suc k) pos x l h = absurd (omega arith)
+sum-later (t ∷ ts) ring (suc k) pos x l h = rw (newest-walk k (suc k) pos x ring, less k) refl
+  where
+    less : (k : ℕ) → suc k - (0 + 1) ≡ k
+    less k = omega arith

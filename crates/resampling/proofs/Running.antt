@@ -1,17 +1,17 @@
--- The resampler's two loops, turn by turn, over a lent output. Assumes nothing.
+-- The resampler's loops, turn by turn, over a lent output. Assumes nothing.
 use Prim.Native.Nat.{ℕ, zero, suc, _+_, _-_, _<_, _≤_, zero-le}
 use mathlib.Core.Path.{_≡_, refl, sym, ap, _∙_, subst}
 use mathlib.Core.Bool.{Bool, true, false}
-use mathlib.Core.List.{List, [], _∷_, _++_}
+use mathlib.Core.List.{List, [], _∷_, _++_, append-nil}
 use native.Mathlib.Nat.{add-zero, add-assoc}
 use native.Mathlib.Numerals.{add-one}
 use native.Mathlib.Omega.{arith}
-use lib.ListN.{length, getD, set, drop, length-append, length-set, drop-of-length-le}
-use lib.Seq.{sets, sets-eq, length-sets, drop-cons}
+use lib.ListN.{length, getD, set, take, drop, length-append, length-drop, length-set, drop-of-length-le}
+use lib.Seq.{sets, sets-eq, length-sets, take-length, drop-cons}
 use lib.Ieee.{Float, nan}
-use Rattle.numeric.specs.F64.{_⊕_, one64, if_then_else_}
-use Rattle.resampling.specs.Resample.{Filter, Flow, Ran, ran, wants, between, pushed, outWith, emitted, drained, fed}
-use Rattle.resampling.specs.ResampleHeld.{ringNext, flowOf, filterIn, Filtered, Run, run, into, drainedInto, fedInto}
+use Rattle.numeric.specs.F64.{_⊕_, if_then_else_}
+use Rattle.resampling.specs.Resample.{Filter, Flow, Ran, ran, wants, between, filtered, newest, windowed, pushed, outWith, emitted, drained, fed}
+use Rattle.resampling.specs.ResampleHeld.{ringNext, historyOf, flowOf, filterIn, Filtered, Run, run, into, drainedInto, fedInto}
 use Rattle.resampling.specs.declared.resample.Moving.{Moving}
 
 -- stores of one list and then another
@@ -75,6 +75,50 @@ module _ (f : Filter) (s : Flow) (out : List Float) (at : ℕ) (x : Float) (xs :
       less : (a b c : ℕ) → a - (b + c) ≡ a - b - c
       less a b c = omega arith
 
+  -- it is the last
+  alone : fedInto f (x ∷ []) (run s out at) ≡ into out at ready
+  unfolding fedInto fed
+  alone = ap (into out at) (same (wants (ready .flow)))
+    where
+      same : (b : Bool) → (if b then ready else ran (ready .out ++ []) (ready .flow)) ≡ ready
+      same true = refl
+      same false = ap (λ (o : List Float). ran o (ready .flow)) (append-nil (ready .out))
+
+-- ---- an input in two parts: the second is taken where no output is still wanted after the first
+module _ (f : Filter) where
+  abbrev onward : Bool → Run → List Float → Run
+  onward true t ys = t
+  onward false t ys = fedInto f ys t
+
+  fed-parts : (x : Float) (xs ys : List Float) (r : Run) (b : Bool) → wants (fedInto f (x ∷ xs) r .flow) ≡ b
+      → fedInto f (x ∷ xs ++ ys) r ≡ onward b (fedInto f (x ∷ xs) r) ys
+  fed-parts x [] ys r b e = rw single (by b (sym (ap (λ (t : Run). wants (t .flow)) single) ∙ e))
+    where
+      t : Run
+      t = into (r .out) (r .at) (ready f (r .flow) (r .out) (r .at) x [])
+
+      single : fedInto f (x ∷ []) r ≡ t
+      single = alone f (r .flow) (r .out) (r .at) x []
+
+      by : (b : Bool) → wants (t .flow) ≡ b → fedInto f (x ∷ ys) r ≡ onward b t ys
+      by true w = stops f (r .flow) (r .out) (r .at) x ys t refl w
+      by false w = goes-on f (r .flow) (r .out) (r .at) x ys t refl w
+  fed-parts x (z ∷ xs) ys r b e = by (wants (t .flow)) refl (fed-parts z xs ys t)
+    where
+      t : Run
+      t = into (r .out) (r .at) (ready f (r .flow) (r .out) (r .at) x [])
+
+      by : (w : Bool) → wants (t .flow) ≡ w → ((b : Bool) → wants (fedInto f (z ∷ xs) t .flow) ≡ b → fedInto f (z ∷ xs ++ ys) t ≡ onward b (fedInto f (z ∷ xs) t) ys)
+          → fedInto f (x ∷ z ∷ xs ++ ys) r ≡ onward b (fedInto f (x ∷ z ∷ xs) r) ys
+      by true w rest =
+          let p : fedInto f (x ∷ z ∷ xs) r ≡ t = stops f (r .flow) (r .out) (r .at) x (z ∷ xs) t refl w in
+          let k : b ≡ true = sym e ∙ ap (λ (u : Run). wants (u .flow)) p ∙ w in
+          rw (k, p) (stops f (r .flow) (r .out) (r .at) x (z ∷ xs ++ ys) t refl w)
+      by false w rest =
+          let p : fedInto f (x ∷ z ∷ xs) r ≡ fedInto f (z ∷ xs) t = goes-on f (r .flow) (r .out) (r .at) x (z ∷ xs) t refl w in
+          let k = sym (ap (λ (u : Run). wants (u .flow)) p) ∙ e in
+          rw p (goes-on f (r .flow) (r .out) (r .at) x (z ∷ xs ++ ys) t refl w ∙ rest b k)
+
 -- in the shape in which the code has it: the sample at i of the input, with s′ the flow after it went in, and t the run after its outputs
 module _ (f : Filter) (s s′ : Flow) (out : List Float) (at : ℕ) (x : Float) (t : Run) where
   pub drained-from : s′ ≡ pushed f x s → t ≡ drainedInto f (run s′ out at) → t ≡ into out at (drained f (length out - at) (pushed f x s))
@@ -89,31 +133,72 @@ module _ (f : Filter) (s : Flow) (out : List Float) (at : ℕ) (xs : List Float)
   pub fed-turn : wants (t .flow) ≡ false → fedInto f (drop i xs) (run s out at) ≡ fedInto f (drop (i + 1) xs) t
   fed-turn w = rw (add-one, drop-cons xs i nan h) (goes-on f s out at (getD xs i nan) (drop (suc i) xs) t e w)
 
+-- the same of the samples at i and after it, two at a time
+module _ (f : Filter) (s : Flow) (out : List Float) (at : ℕ) (xs : List Float) (i : ℕ) (t : Run) (h : i + 1 < length xs)
+    (e : t ≡ fedInto f (getD xs i nan ∷ getD xs (i + 1) nan ∷ []) (run s out at)) where
+  two : drop i xs ≡ getD xs i nan ∷ getD xs (i + 1) nan ∷ drop (i + 2) xs
+  two =
+      let k : suc (i + 1) ≡ i + 2 = omega arith in
+      drop-cons xs i nan (omega arith) ∙ ap (λ (l : List Float). getD xs i nan ∷ l) (ap (λ (j : ℕ). drop j xs) (sym (add-one i)) ∙ drop-cons xs (i + 1) nan h ∙ ap (λ (j : ℕ). getD xs (i + 1) nan ∷ drop j xs) k)
+
+  pub pair-halt : wants (t .flow) ≡ true → fedInto f (drop i xs) (run s out at) ≡ t
+  pair-halt w = rw two (fed-parts f (getD xs i nan) (getD xs (i + 1) nan ∷ []) (drop (i + 2) xs) (run s out at) true (sym (ap (λ (u : Run). wants (u .flow)) e) ∙ w) ∙ sym e)
+
+  pub pair-turn : wants (t .flow) ≡ false → fedInto f (drop i xs) (run s out at) ≡ fedInto f (drop (i + 2) xs) t
+  pair-turn w = rw (two, e) (fed-parts f (getD xs i nan) (getD xs (i + 1) nan ∷ []) (drop (i + 2) xs) (run s out at) false (sym (ap (λ (u : Run). wants (u .flow)) e) ∙ w))
+
+-- two samples alone: t is the run after the first's outputs, and u after the second's
+module _ (f : Filter) (s : Flow) (out : List Float) (at : ℕ) (x z : Float) (t : Run) (e : t ≡ into out at (drained f (length out - at) (pushed f x s))) where
+  pub first-only : wants (t .flow) ≡ true → t ≡ fedInto f (x ∷ z ∷ []) (run s out at)
+  first-only w = sym (stops f s out at x (z ∷ []) t e w)
+
+  pub both-taken : (u : Run) → wants (t .flow) ≡ false → u ≡ into (t .out) (t .at) (drained f (length (t .out) - t .at) (pushed f z (t .flow))) → u ≡ fedInto f (x ∷ z ∷ []) (run s out at)
+  both-taken u w d = d ∙ sym (goes-on f s out at x (z ∷ []) t e w ∙ alone f (t .flow) (t .out) (t .at) z [])
+
+-- the part of the input from i on
+pub fed-rest : (f : Filter) (r : Run) (xs : List Float) (i : ℕ) (t u : Run) → t ≡ fedInto f (take (length xs - i) (drop i xs)) r → fedInto f (drop i xs) r ≡ u → t ≡ u
+fed-rest f r xs i t u e g = e ∙ ap (λ (l : List Float). fedInto f l r) (rw (← length-drop) (take-length (drop i xs))) ∙ g
+
 pub fed-done : (f : Filter) (s : Flow) (out : List Float) (at : ℕ) (xs : List Float) (i : ℕ) → length xs ≤ i → fedInto f (drop i xs) (run s out at) ≡ run s out at
 unfolding fedInto fed
 fed-done f s out at xs i h = rw (drop-of-length-le xs h) (run-nil s out at)
 
+-- ---- going down in rate, the outputs leave the filter's history as it is
+emitted-history : (f : Filter) (s : Flow) → f .decimating ≡ true → emitted f s .flow .history ≡ s .history
+unfolding emitted
+emitted-history f s e = rw e
+
+history-kept : (f : Filter) (room : ℕ) (s : Flow) → f .decimating ≡ true → drained f room s .flow .history ≡ s .history
+unfolding drained
+history-kept f zero s e = refl
+history-kept f (suc room) s e = by (wants s) (history-kept f room (emitted f s .flow) e ∙ emitted-history f s e)
+  where
+    d : Ran
+    d = drained f room (emitted f s .flow)
+
+    by : (b : Bool) → d .flow .history ≡ s .history → (if b then ran (emitted f s .y ∷ d .out) (d .flow) else ran [] s) .flow .history ≡ s .history
+    by true h = h
+    by false h = refl
+
+-- so that the filter's output for the next sample is still what it was
+pub still-ahead : (f : Filter) (s : Flow) (out : List Float) (at : ℕ) (t : Run) (z y : Float) → f .decimating ≡ true → t ≡ drainedInto f (run s out at)
+    → y ≡ filtered (f .taps) (newest z (s .history)) → windowed (t .flow) (newest z (t .flow .history)) y ≡ pushed f z (t .flow)
+unfolding drainedInto pushed
+still-ahead f s out at t z y e d a =
+    let k : t .flow .history ≡ s .history = ap (λ (r : Run). r .flow .history) d ∙ history-kept f (length out - at) s e in
+    rw (e, k, a)
+
 -- ---- one sample in and one sample out, over the code's ring and window
 module _ (n : ℕ) (taps ring ring′ : List Float) (m : Moving) where
-  -- the window with one sample more
-  abbrev slid : ℕ → Float → Moving
-  slid p y =
-      record {
-        «fir_pos» = p;
-        «herm_hist» = getD (m .«herm_hist») 1 nan ∷ getD (m .«herm_hist») 2 nan ∷ getD (m .«herm_hist») 3 nan ∷ y ∷ [];
-        «frac_pos» = m .«frac_pos»;
-        «n_pushed» = m .«n_pushed» ⊕ one64;
-      }
-
   abbrev on : ℕ → Float → Moving
   on p step = record { «fir_pos» = p; «herm_hist» = m .«herm_hist»; «frac_pos» = m .«frac_pos» ⊕ step; «n_pushed» = m .«n_pushed» }
 
   pub pushed-down : (d : Bool) (step x y : Float) (p : ℕ) → d ≡ true → Filtered n (m .«fir_pos») taps x ring ring′ y → p ≡ ringNext n (m .«fir_pos»)
-      → flowOf n ring′ (slid p y) ≡ pushed (filterIn n taps d step) x (flowOf n ring m)
+      → windowed (flowOf n ring′ m) (historyOf n p ring′) y ≡ pushed (filterIn n taps d step) x (flowOf n ring m)
   unfolding flowOf pushed
   pushed-down d step x y p e f g = rw (e, g, f .history, f .value)
 
-  pub pushed-up : (d : Bool) (step x : Float) → d ≡ false → flowOf n ring (slid (m .«fir_pos») x) ≡ pushed (filterIn n taps d step) x (flowOf n ring m)
+  pub pushed-up : (d : Bool) (step x : Float) → d ≡ false → windowed (flowOf n ring m) (historyOf n (m .«fir_pos») ring) x ≡ pushed (filterIn n taps d step) x (flowOf n ring m)
   unfolding flowOf pushed
   pushed-up d step x e = rw e
 

@@ -11,9 +11,9 @@ use refusal::Counted;
 use refusal::Refusal;
 use refusal::rates_ok;
 ghost use mathlib.Core.Path.{_≡_};
-ghost use mathlib.Core.Bool.{false};
-ghost use mathlib.Core.List.{_++_, map};
-ghost use Prim.Native.Nat.{_+_, _-_, _≤_, _<_};
+ghost use mathlib.Core.Bool.{true, false};
+ghost use mathlib.Core.List.{List, [], _∷_, _++_, map};
+ghost use Prim.Native.Nat.{ℕ, _+_, _-_, _≤_, _<_};
 ghost use lib.Dec.{eqb};
 ghost use lib.ListN.{length, set, take, drop, replicate};
 ghost use lib.Ieee.{Float};
@@ -21,7 +21,7 @@ ghost use Rattle.numeric.specs.F64.{zero64, _⊘_};
 ghost use Rattle.numeric.specs.Counts.{tapCount};
 ghost use Rattle.refusal.specs.Refusals.{acceptanceOf, countOf};
 ghost use Rattle.resampling.specs.Design.{cutoffOf, sinc, blackman, rawTap, rawTaps, total, lowpass};
-ghost use Rattle.resampling.specs.Resample.{filtered, newest, hermiteAt, pushed, outWith, emitted, faster, fresh, newOf, made, resetOf, maxOutputLen, lenOf, outcome, processed};
+ghost use Rattle.resampling.specs.Resample.{filtered, newest, hermiteAt, windowed, pushed, outWith, emitted, faster, fresh, newOf, made, resetOf, maxOutputLen, lenOf, outcome, processed};
 ghost use Rattle.resampling.specs.ResampleHeld.{ringBack, ringNext, walk, historyOf, windowOf, flowOf, filterIn, run, drainedInto, fedInto, Placed, Filtered, TapsFor, InRange, stateOf, Sound};
 
 // The most taps: those at 48,000.
@@ -184,6 +184,34 @@ fn fir_sum(taps: &[f64; MAX_TAPS], hist: &[f64; MAX_TAPS], n: usize, pos: usize)
     acc
 }
 
+// The filter's output for a sample, and for the one after it.
+struct Two {
+    first: f64,
+    second: f64,
+}
+
+// The filter's output over a ring of n whose newest sample is at pos, and over the same with one sample more, `later`. The two sums stand
+// in one loop, each in its own order, since an addition of one need not wait for the other.
+fn fir_sums(taps: &[f64; MAX_TAPS], hist: &[f64; MAX_TAPS], n: usize, pos: usize, later: f64) -> Two
+    requires { ⌜ Placed n pos (now taps) (now hist) ⌝ }
+    ensures { λ r. ⌜ r .first ≡ filtered (take n (now (taps .entry))) (walk n n pos (now (hist .entry))) ⌝ }
+    ensures { λ r. ⌜ r .second ≡ filtered (take n (now (taps .entry))) (newest later (walk n n pos (now (hist .entry)))) ⌝ }
+{
+    let mut first = 0.0;
+    let mut second = 0.0 + taps[0] * later;
+    let mut idx = pos;
+    let mut i = 0;
+    while i + 1 < n {
+        let x = hist[idx];
+        first = first + taps[i] * x;
+        second = second + taps[i + 1] * x;
+        idx = ring_back(n, idx);
+        i += 1;
+    }
+    first = first + taps[i] * hist[idx];
+    Two { first, second }
+}
+
 // One sample through the filter: it goes to pos, and the next will go to the place after.
 fn fir_push(taps: &[f64; MAX_TAPS], hist: &mut [f64; MAX_TAPS], n: usize, pos: usize, x: f64) -> f64
     requires { ⌜ Placed n pos (now taps) (now hist) ⌝ }
@@ -209,6 +237,21 @@ fn hermite(w: [f64; 4], t: f64) -> f64
     ((c3 * t + c2) * t + c1) * t + c0
 }
 
+// A sample into the window, where the next one for the filter goes to the place `next`.
+fn slide(m: Moving, next: usize, y: f64) -> Moving
+    ensures { λ r. ⌜ ((n : ℕ) → (ring : List Float) → flowOf n ring r ≡ windowed (flowOf n ring m) (historyOf n next ring) y) ⌝ }
+    ensures { λ r. ⌜ r .«fir_pos» ≡ next ⌝ }
+{
+    let w = m.herm_hist;
+    let window = [w[1], w[2], w[3], y];
+    Moving {
+        fir_pos: next,
+        herm_hist: window,
+        frac_pos: m.frac_pos,
+        n_pushed: m.n_pushed + 1.0,
+    }
+}
+
 // One input sample: through the filter first where the rate goes down, and into the window.
 fn push_one(
     taps: &[f64; MAX_TAPS],
@@ -222,27 +265,56 @@ fn push_one(
     ensures { λ r. ⌜ ((step : Float) → flowOf n (now (hist .exit)) r ≡ pushed (filterIn n (now (taps .entry)) decimating step) x (flowOf n (now (hist .entry)) m)) ⌝ }
     ensures { λ r. ⌜ Placed n (r .«fir_pos») (now (taps .entry)) (now (hist .exit)) ⌝ }
 {
-    let w = m.herm_hist;
     let pos = m.fir_pos;
     if decimating {
         let y = fir_push(taps, hist, n, pos, x);
         let next = ring_next(n, pos);
-        let window = [w[1], w[2], w[3], y];
-        Moving {
-            fir_pos: next,
-            herm_hist: window,
-            frac_pos: m.frac_pos,
-            n_pushed: m.n_pushed + 1.0,
-        }
-    } else {
-        let window = [w[1], w[2], w[3], x];
-        Moving {
-            fir_pos: pos,
-            herm_hist: window,
-            frac_pos: m.frac_pos,
-            n_pushed: m.n_pushed + 1.0,
-        }
+        return slide(m, next, y);
     }
+    slide(m, pos, x)
+}
+
+// What moved, and the filter's output for the sample after.
+struct Pushed {
+    moving: Moving,
+    ahead: f64,
+}
+
+// One input sample where the rate goes down, with the filter's output for the one after it, `later`.
+fn push_ahead(
+    taps: &[f64; MAX_TAPS],
+    hist: &mut [f64; MAX_TAPS],
+    n: usize,
+    m: Moving,
+    x: f64,
+    later: f64,
+) -> Pushed
+    requires { ⌜ Placed n (m .«fir_pos») (now taps) (now hist) ⌝ }
+    ensures { λ r. ⌜ ((step : Float) → flowOf n (now (hist .exit)) (r .moving) ≡ pushed (filterIn n (now (taps .entry)) true step) x (flowOf n (now (hist .entry)) m)) ⌝ }
+    ensures { λ r. ⌜ Placed n (r .moving .«fir_pos») (now (taps .entry)) (now (hist .exit)) ⌝ }
+    ensures { λ r. ⌜ r .ahead ≡ filtered (take n (now (taps .entry))) (newest later (historyOf n (r .moving .«fir_pos») (now (hist .exit)))) ⌝ }
+{
+    let pos = m.fir_pos;
+    hist[pos] = x;
+    let y = fir_sums(taps, hist, n, pos, later);
+    let next = ring_next(n, pos);
+    let moving = slide(m, next, y.first);
+    Pushed {
+        moving,
+        ahead: y.second,
+    }
+}
+
+// One input sample where the rate goes down, whose filter output y is known.
+fn push_known(hist: &mut [f64; MAX_TAPS], n: usize, m: Moving, x: f64, y: f64) -> Moving
+    requires { ⌜ (m .«fir_pos» < n) × (n ≤ 373) × (length (now hist) ≡ 373) ⌝ }
+    ensures { λ r. ⌜ flowOf n (now (hist .exit)) r ≡ windowed (flowOf n (now (hist .entry)) m) (newest x (historyOf n (m .«fir_pos») (now (hist .entry)))) y ⌝ }
+    ensures { λ r. ⌜ (r .«fir_pos» < n) × (length (now (hist .exit)) ≡ 373) ⌝ }
+{
+    let pos = m.fir_pos;
+    hist[pos] = x;
+    let next = ring_next(n, pos);
+    slide(m, next, y)
 }
 
 // An output sample, and what moved.
@@ -328,6 +400,103 @@ fn drain(
     Drained { at, moving }
 }
 
+// The whole input, a sample at a time, as far as the output has room for what it makes ready.
+fn feed_singly(
+    taps: &[f64; MAX_TAPS],
+    hist: &mut [f64; MAX_TAPS],
+    n: usize,
+    decimating: bool,
+    step: f64,
+    m: Moving,
+    input: &[f64],
+    output: &mut [f64],
+    from: usize,
+) -> Drained
+    requires { ⌜ Placed n (m .«fir_pos») (now taps) (now hist) ⌝ }
+    ensures { λ r. ⌜ run (flowOf n (now (hist .exit)) (r .moving)) (now (output .exit)) (r .at) ≡ fedInto (filterIn n (now (taps .entry)) decimating step) (now (input .entry)) (run (flowOf n (now (hist .entry)) m) (now (output .entry)) from) ⌝ }
+    ensures { λ r. ⌜ Placed n (r .moving .«fir_pos») (now (taps .entry)) (now (hist .exit)) ⌝ }
+{
+    let mut moving = m;
+    let mut at = from;
+    let mut i = 0;
+    while i < input.len() {
+        let p = push_one(taps, hist, n, decimating, moving, input[i]);
+        let d = drain(taps, hist, n, decimating, step, p, output, at);
+        moving = d.moving;
+        at = d.at;
+        if moving.n_pushed - 2.0 > moving.frac_pos {
+            return Drained { at, moving };
+        }
+        i += 1;
+    }
+    Drained { at, moving }
+}
+
+// Two input samples where the rate goes down. The second is taken only where the output had room for what the first made ready.
+fn feed_two(
+    taps: &[f64; MAX_TAPS],
+    hist: &mut [f64; MAX_TAPS],
+    n: usize,
+    step: f64,
+    m: Moving,
+    x: f64,
+    later: f64,
+    output: &mut [f64],
+    from: usize,
+) -> Drained
+    requires { ⌜ Placed n (m .«fir_pos») (now taps) (now hist) ⌝ }
+    ensures { λ r. ⌜ run (flowOf n (now (hist .exit)) (r .moving)) (now (output .exit)) (r .at) ≡ fedInto (filterIn n (now (taps .entry)) true step) (x ∷ later ∷ []) (run (flowOf n (now (hist .entry)) m) (now (output .entry)) from) ⌝ }
+    ensures { λ r. ⌜ Placed n (r .moving .«fir_pos») (now (taps .entry)) (now (hist .exit)) ⌝ }
+{
+    let p = push_ahead(taps, hist, n, m, x, later);
+    let d = drain(taps, hist, n, true, step, p.moving, output, from);
+    let moving = d.moving;
+    if moving.n_pushed - 2.0 > moving.frac_pos {
+        return Drained { at: d.at, moving };
+    }
+    let q = push_known(hist, n, moving, later, p.ahead);
+    drain(taps, hist, n, true, step, q, output, d.at)
+}
+
+// The whole input where the rate goes down, two samples at a time, and an odd last one singly.
+fn feed_pairs(
+    taps: &[f64; MAX_TAPS],
+    hist: &mut [f64; MAX_TAPS],
+    n: usize,
+    step: f64,
+    m: Moving,
+    input: &[f64],
+    output: &mut [f64],
+) -> Drained
+    requires { ⌜ Placed n (m .«fir_pos») (now taps) (now hist) ⌝ }
+    ensures { λ r. ⌜ run (flowOf n (now (hist .exit)) (r .moving)) (now (output .exit)) (r .at) ≡ fedInto (filterIn n (now (taps .entry)) true step) (now (input .entry)) (run (flowOf n (now (hist .entry)) m) (now (output .entry)) 0) ⌝ }
+    ensures { λ r. ⌜ Placed n (r .moving .«fir_pos») (now (taps .entry)) (now (hist .exit)) ⌝ }
+{
+    let mut moving = m;
+    let mut at = 0;
+    let mut i = 0;
+    while i + 1 < input.len() {
+        let d = feed_two(
+            taps,
+            hist,
+            n,
+            step,
+            moving,
+            input[i],
+            input[i + 1],
+            output,
+            at,
+        );
+        moving = d.moving;
+        at = d.at;
+        if moving.n_pushed - 2.0 > moving.frac_pos {
+            return Drained { at, moving };
+        }
+        i += 2;
+    }
+    feed_singly(taps, hist, n, true, step, moving, &input[i..], output, at)
+}
+
 // The whole input, as far as the output has room for what it makes ready.
 fn feed(
     taps: &[f64; MAX_TAPS],
@@ -343,20 +512,10 @@ fn feed(
     ensures { λ r. ⌜ run (flowOf n (now (hist .exit)) (r .moving)) (now (output .exit)) (r .at) ≡ fedInto (filterIn n (now (taps .entry)) decimating step) (now (input .entry)) (run (flowOf n (now (hist .entry)) m) (now (output .entry)) 0) ⌝ }
     ensures { λ r. ⌜ Placed n (r .moving .«fir_pos») (now (taps .entry)) (now (hist .exit)) ⌝ }
 {
-    let mut moving = m;
-    let mut at = 0;
-    let mut i = 0;
-    while i < input.len() {
-        let p = push_one(taps, hist, n, decimating, moving, input[i]);
-        let d = drain(taps, hist, n, decimating, step, p, output, at);
-        moving = d.moving;
-        at = d.at;
-        if moving.n_pushed - 2.0 > moving.frac_pos {
-            return Drained { at, moving };
-        }
-        i += 1;
+    if decimating {
+        return feed_pairs(taps, hist, n, step, m, input, output);
     }
-    Drained { at, moving }
+    feed_singly(taps, hist, n, decimating, step, m, input, output, 0)
 }
 
 // Copies the input to the front of the output.

@@ -25,7 +25,10 @@ array-read-sum : tie.Need-array-read-sum Inv-loop μ-loop
 array-read-sum c = search needs
 
 add-sum : tie.Need-add-sum Inv-loop μ-loop
-add-sum c = let l = c .before .loop in let s = c .before .before in omega (arith, l .inv .1, s .pre .1, total-next (s .args .t1) (l .i) (omega (arith, c .loop-test .taken, s .pre .0)))
+add-sum c =
+    let l = c .before .loop in
+    let s = c .before .before in
+    omega (arith, l .inv .1, s .pre .1, total-next (s .args .t1) (l .i) (omega (arith, c .loop-test .taken, s .pre .0)))
 
 add-i : tie.Need-add-i Inv-loop μ-loop
 add-i c = search needs
@@ -34,10 +37,17 @@ loop-less : tie.Need-loop-less Inv-loop μ-loop
 loop-less c = search needs
 
 loop-again : tie.Need-loop-again Inv-loop μ-loop
-loop-again c = let l = c .before .loop in let s = c .before .before in let t = c .loop-test .taken in (omega (arith, t), omega (arith, l .inv .1, total-next (s .args .t1) (l .i) (omega (arith, t, s .pre .0))))
+loop-again c =
+    let l = c .before .loop in
+    let s = c .before .before in
+    let t = c .loop-test .taken in
+    (omega (arith, t), omega (arith, l .inv .1, total-next (s .args .t1) (l .i) (omega (arith, t, s .pre .0))))
 
 returns : tie.Need-returns Inv-loop μ-loop
-returns c = let l = c .before .loop in let s = c .before .before in omega (arith, l .inv .1, total-end (s .args .t1) (l .i) (omega (arith, c .loop-test .left, s .pre .0)))
+returns c =
+    let l = c .before .loop in
+    let s = c .before .before in
+    omega (arith, l .inv .1, total-end (s .args .t1) (l .i) (omega (arith, c .loop-test .left, s .pre .0)))
 
 pub sum-of-spec : {M : Type 1} → statement M
 sum-of-spec =

@@ -17,13 +17,17 @@ all-writes-requires : tie.Need-all-writes-requires
 all-writes-requires c κs = search needs
 
 returns : tie.Need-returns
-returns c = let m = c .before .before .before .new in listens-refused _ _ _ _ _ _ (m .result) (m .ensures) _ (c .enum-told .given .1)
+returns c =
+    let m = c .before .before .before .new in
+    listens-refused _ _ _ _ _ _ (m .result) (m .ensures) _ (c .enum-told .given .1)
 
 same-length : tie.Need-same-length
 same-length c = search needs
 
 returns-2 : tie.Need-returns-2
-returns-2 c = let m = c .before .before .before .before .before .before .before .new in listens-run _ _ _ _ _ _ (m .result) (m .ensures) (c .before .before .before .before .enum-told2 .given .1) _ _ (c .before .before .all-writes .ensures)
+returns-2 c =
+    let m = c .before .before .before .before .before .before .before .new in
+    listens-run _ _ _ _ _ _ (m .result) (m .ensures) (c .before .before .before .before .enum-told2 .given .1) _ _ (c .before .before .all-writes .ensures)
 
 pub listen-spec : {M : Type 1} → statement M
 listen-spec =

@@ -32,7 +32,12 @@ same-length : tie.Need-same-length
 same-length c = search needs
 
 returns : tie.Need-returns
-returns c = let s = c .before .before .before .before .before .before .before .before .before .before .before .before in let pe = c .before .before .before .before .before .before .before .before .part-end in let w = c .before .before .before .before .before .before .write in let t = c .before .before .before .before .before .told-of in steps (s .args .p) _ _ _ (w .result) (t .result) _ _ _ (pe .ensures .0) (pe .ensures .2) (w .ensures) (t .ensures) (c .before .before .before .tell .ensures)
+returns c =
+    let s = c .before .before .before .before .before .before .before .before .before .before .before .before in
+    let pe = c .before .before .before .before .before .before .before .before .part-end in
+    let w = c .before .before .before .before .before .before .write in
+    let t = c .before .before .before .before .before .told-of in
+    steps (s .args .p) _ _ _ (w .result) (t .result) _ _ _ (pe .ensures .0) (pe .ensures .2) (w .ensures) (t .ensures) (c .before .before .before .tell .ensures)
 
 pub one-write-spec : {M : Type 1} → statement M
 one-write-spec =

@@ -6,7 +6,7 @@ use Rattle.ffi.specs.Steps.{Within}
 use Rattle.ffi.specs.Resample.{after, processedFrom}
 use lib.ListN.{length, take, drop}
 use mathlib.Core.Path.{_≡_, refl, sym, _∙_}
-use Prim.Native.Nat.{_+_, _*_, _-_, _≤_, zero-le}
+use Prim.Native.Nat.{_*_, _-_, _≤_, zero-le}
 use borrow.Author.Needs.{needs}
 use Rattle.ffi.proofs.resample.all_calls.Statement.{statement}
 use Rattle.ffi.proofs.resample.all_calls.Tie as tie
@@ -22,8 +22,8 @@ Inv-loop input lengths output₀ answers₀ calls place₀ i₀ output answers p
 abbrev μ-loop : tie.MeasureT-loop
 μ-loop input lengths output₀ answers₀ calls place₀ i₀ output answers place i = calls - i
 
-calls-in-requires : tie.Need-calls-in-requires Inv-loop μ-loop
-calls-in-requires c κs = search needs
+smaller-requires : tie.Need-smaller-requires Inv-loop μ-loop
+smaller-requires c κs = search needs
 
 loop-holds : tie.Need-loop-holds Inv-loop μ-loop
 loop-holds c = (omega arith, refl, refl, record { sound = c .before .before .before .before .before .pre; read = zero-le; written = zero-le }, after-start _)
@@ -51,8 +51,8 @@ loop-again c =
     let l = c .before .before .before .before .before .before .before .before .before .loop in
     let s = c .before .before .before .before .one-call in
     let t = c .before .before .before .before .before .before .before .before .loop-test .taken in
-    let n = c .before .before .before .before .before .before .before .before .before .before .calls-in .ensures in
-    (omega (arith, t), search needs, search needs, s .ensures .1, processed-step _ _ _ _ (omega (arith, t, n .0)) (omega (arith, t, n .1, l .inv .2)) _ _ _ _ _ (l .inv .3 .written) (s .ensures .0) ∙ l .inv .4)
+    let n = c .before .before .before .before .before .before .before .before .before .before .smaller .ensures in
+    (omega (arith, t), search needs, search needs, s .ensures .1, processed-step _ _ _ _ (omega (arith, t, n .1)) (omega (arith, t, n .2, l .inv .2)) _ _ _ _ _ (l .inv .3 .written) (s .ensures .0) ∙ l .inv .4)
 
 same-length : tie.Need-same-length Inv-loop μ-loop
 same-length c = search needs
@@ -63,8 +63,9 @@ same-length-2 c = search needs
 returns : tie.Need-returns Inv-loop μ-loop
 returns c =
     let l = c .before .loop in
-    let e : l .i ≡ c .before .before .calls-in .result = omega arith in
-    rw (← e) (sym (processed-end _ (l .i) _ (rw (e, l .inv .2) (c .before .before .calls-in .ensures .2)) _ _ _ (l .place .written)) ∙ l .inv .4)
+    let e : l .i ≡ c .before .before .smaller .result = omega arith in
+    let full = c .before .before .smaller .ensures .3 in
+    rw (← e) (sym (processed-end _ (l .i) _ (λ h. let f = full (omega (arith, h, e)) in omega (arith, f, e, l .inv .2)) _ _ _ (l .place .written)) ∙ l .inv .4)
 
 pub all-calls-spec : {M : Type 1} → statement M
 all-calls-spec =
@@ -72,7 +73,7 @@ all-calls-spec =
     (tie.spec
     Inv-loop
     μ-loop
-    calls-in-requires
+    smaller-requires
     loop-holds
     mul-one-call
     shared-slice-read-one-call

@@ -6,7 +6,7 @@ use Rattle.ffi.specs.Resample.{after, lengthsFrom}
 use lib.ListN.{length, take, drop}
 use mathlib.Core.List.{[]}
 use mathlib.Core.Path.{_≡_, refl, sym, _∙_}
-use Prim.Native.Nat.{_+_, _*_, _-_, _≤_}
+use Prim.Native.Nat.{_*_, _-_, _≤_}
 use borrow.Author.Needs.{needs}
 use Rattle.ffi.proofs.resample.all_lengths.Statement.{statement}
 use Rattle.ffi.proofs.resample.all_lengths.Tie as tie
@@ -20,8 +20,8 @@ Inv-loop state lengths answers₀ calls i₀ answers i =
 abbrev μ-loop : tie.MeasureT-loop
 μ-loop state lengths answers₀ calls i₀ answers i = calls - i
 
-calls-in-requires : tie.Need-calls-in-requires Inv-loop μ-loop
-calls-in-requires c κs = search needs
+smaller-requires : tie.Need-smaller-requires Inv-loop μ-loop
+smaller-requires c κs = search needs
 
 loop-holds : tie.Need-loop-holds Inv-loop μ-loop
 loop-holds c = (omega arith, refl, after-start _)
@@ -55,8 +55,9 @@ same-length c = search needs
 returns : tie.Need-returns Inv-loop μ-loop
 returns c =
     let l = c .before .loop in
-    let e : l .i ≡ c .before .before .calls-in .result = omega arith in
-    rw (← e) (sym (lengths-end _ (l .i) _ (rw (e, l .inv .1) (c .before .before .calls-in .ensures .2)) _) ∙ l .inv .2)
+    let e : l .i ≡ c .before .before .smaller .result = omega arith in
+    let full = c .before .before .smaller .ensures .3 in
+    rw (← e) (sym (lengths-end _ (l .i) _ (λ h. let f = full (omega (arith, h, e)) in omega (arith, f, e, l .inv .1)) _) ∙ l .inv .2)
 
 pub all-lengths-spec : {M : Type 1} → statement M
 all-lengths-spec =
@@ -64,7 +65,7 @@ all-lengths-spec =
     (tie.spec
     Inv-loop
     μ-loop
-    calls-in-requires
+    smaller-requires
     loop-holds
     mul-one-length
     shared-slice-read-one-length

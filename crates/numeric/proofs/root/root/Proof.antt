@@ -1,12 +1,10 @@
 -- `numeric::root::root` meets its contract: the code's operations are the definition's, and a NaN's root is a NaN. Assumes nothing.
 use mathlib.Core.Path.{_≡_, sym, ap, _∙_, subst}
-use native.Mathlib.Omega.{arith}
 use lib.Dec.{T}
 use lib.Ieee.{Float, nan}
 use lib.Ieee.Compare.{differs-from-itself}
-use Rattle.numeric.specs.Whole.{not-nan}
 use Rattle.numeric.specs.Root.{rootOf, improved, improved-nan, guess, squares}
-use Rattle.numeric.proofs.Squares.{squares-lt, guess-number}
+use Rattle.numeric.proofs.Squares.{squares-lt}
 use Rattle.numeric.proofs.root.root.Statement.{statement}
 use Rattle.numeric.proofs.root.root.Tie as tie
 
@@ -20,19 +18,13 @@ returns-2 c =
     let e : squares (c .before .before .args .a) (c .before .before .args .b) ≡ nan = differs-from-itself _ (subst T (sym (c .if2 .taken)) tt) in
     rw (c .before .if1 .left) (e ∙ sym improved-nan ∙ ap (λ (v : Float). improved 5 v (guess v)) (sym e))
 
-float-to-bits-g : tie.Need-float-to-bits-g
-float-to-bits-g c = not-nan _ (c .if2 .left)
-
-add-g : tie.Need-add-g
-add-g c = omega (arith, squares-lt _ _ (c .if2 .left))
-
-float-from-bits-g : tie.Need-float-from-bits-g
-float-from-bits-g c = guess-number _ (squares-lt _ _ (c .if2 .left))
+first-guess-requires : tie.Need-first-guess-requires
+first-guess-requires c κs = (c .if2 .left, squares-lt _ _ (c .if2 .left))
 
 returns-3 : tie.Need-returns-3
 unfolding rootOf improved
-returns-3 c = rw (c .before .if1 .left)
+returns-3 c = rw (c .first-guess .ensures, c .before .before .if1 .left)
 
 pub root-spec : {M : Type 1} → statement M
 root-spec =
-    tie.close (tie.spec returns returns-2 float-to-bits-g add-g float-from-bits-g returns-3)
+    tie.close (tie.spec returns returns-2 first-guess-requires returns-3)

@@ -5,7 +5,9 @@ use Rattle.board.proofs.board.Board.judged.Statement.{statement}
 use Rattle.board.proofs.board.Board.judged.Tie as tie
 
 sum-of-requires : tie.Need-sum-of-requires
-sum-of-requires c κs = let s = c .before .before in (s .pre .desk .places, counts-fit (s .args .self) (s .pre))
+sum-of-requires c κs =
+    let s = c .before .before in
+    (s .pre .desk .places, counts-fit (s .args .self) (s .pre))
 
 returns : tie.Need-returns
 unfolding plainOf

@@ -1,6 +1,7 @@
 -- In the order of the code: each part is what its function ensures. `Core::feed` says whether the rings are filled.
 use mathlib.Core.Path.{_≡_, sym}
 use mathlib.Core.Bool.{true, false}
+use native.Mathlib.Omega.{arith}
 use borrow.Author.Needs.{needs}
 use borrow.Author.Tests.{not-true, not-false}
 use lib.Ieee.{Float}
@@ -16,6 +17,7 @@ use Rattle.modem.specs.declared.demod.Latch.{Latch}
 use Rattle.modem.specs.declared.demod.Rings.{Rings}
 use Rattle.framing.specs.declared.frame.Heard.the-variants.{Waiting}
 use Rattle.modem.specs.declared.queue.Event.the-variants.{Nothing}
+use Rattle.modem.proofs.Summing.{summed-kept, tone-end}
 use Rattle.modem.proofs.demod.Core.step.Statement.{statement}
 use Rattle.modem.proofs.demod.Core.step.Tie as tie
 
@@ -54,11 +56,19 @@ returns c =
     waits _ _ _ _ (rw (n .multiply2 .ensures .1, n .multiply2 .ensures .0, m .multiply .ensures .1, m .multiply .ensures .0)) (f .feed .ensures)
     (not-true (f .feed .result .corr .filled) (c .if1 .taken))
 
-magnitude-requires : tie.Need-magnitude-requires
-magnitude-requires c κs = search needs
+sums-on-requires : tie.Need-sums-on-requires
+sums-on-requires c κs =
+    let n = c .before .before .before .before .before .before .before in
+    let m = n .before .before .before in
+    let a = m .before .before .before .before in (
+      omega (arith, a .pre .0),
+      omega arith,
+      summed-kept (a .args .self .corr) (a .args .s) _ _ _ (a .pre .1)
+          (rw (n .multiply2 .ensures .1, n .multiply2 .ensures .0, m .multiply .ensures .1, m .multiply .ensures .0)),
+    )
 
-magnitude-requires-2 : tie.Need-magnitude-requires-2
-magnitude-requires-2 c κs = search needs
+roots-requires : tie.Need-roots-requires
+roots-requires c κs = search needs
 
 decide-requires : tie.Need-decide-requires
 decide-requires c κs = search needs
@@ -77,13 +87,14 @@ returns-2 c =
     let u = c .before .before in
     let o = u .before .before .before in
     let y = o .before in
-    let x = y .before .before .before in
-    let i = x .before .before .before in
+    let t = y .before .sums-on .ensures in
+    let i = y .before .before .before .before .before .before in
     let f = i .before .before in
     let n = f .before in
     let m = n .before .before .before in
     decodes _ _ _ _ _ _ _ _ _ _ (rw (n .multiply2 .ensures .1, n .multiply2 .ensures .0, m .multiply .ensures .1, m .multiply .ensures .0)) (f .feed .ensures)
-    (not-false (f .feed .result .corr .filled) (i .if1 .left)) (x .magnitude .ensures) (y .magnitude2 .ensures) (o .decide .ensures) (u .update .ensures)
+    (not-false (f .feed .result .corr .filled) (i .if1 .left)) (tone-end _ _ _ _ _ (t .mark-i) (t .mark-q) (y .roots .ensures .0))
+    (tone-end _ _ _ _ _ (t .space-i) (t .space-q) (y .roots .ensures .1)) (o .decide .ensures) (u .update .ensures)
     (c .before .see .ensures) (c .finish .ensures)
 
 pub step-spec : {M : Type 1} → statement M
@@ -94,8 +105,8 @@ step-spec =
     multiply-requires-2
     feed-requires
     returns
-    magnitude-requires
-    magnitude-requires-2
+    sums-on-requires
+    roots-requires
     decide-requires
     update-requires
     see-requires

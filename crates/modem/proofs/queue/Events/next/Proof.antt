@@ -38,16 +38,16 @@ array-read-event-of c = search needs
 event-of-requires : tie.Need-event-of-requires
 event-of-requires c κs = search needs
 
-without-oldest-requires : tie.Need-without-oldest-requires
-without-oldest-requires c κs = search needs
+drop-oldest-requires : tie.Need-drop-oldest-requires
+drop-oldest-requires c κs = search needs
 
-sub-t12 : tie.Need-sub-t12
-sub-t12 c = search needs
+sub-t14 : tie.Need-sub-t14
+sub-t14 c = search needs
 
 returns-2 : tie.Need-returns-2
 returns-2 c =
-    let b = c .before .before .before .before in
-    rw (c .before .event-of .ensures) (popped (b .args .self) _ (b .pre) (search needs) (c .without-oldest .ensures))
+    let b = c .before .before .before .before .before in
+    rw (c .before .before .event-of .ensures) (popped (b .args .self) _ (b .pre) (search needs) (c .drop-oldest .ensures))
 
 pub next-spec : {M : Type 1} → statement M
 next-spec =
@@ -56,6 +56,6 @@ next-spec =
     returns
     array-read-event-of
     event-of-requires
-    without-oldest-requires
-    sub-t12
+    drop-oldest-requires
+    sub-t14
     returns-2)
