@@ -139,6 +139,74 @@ uint32_t morkhetta_receiver_state(
     double *state, size_t state_len
 );
 
+/* Why a board of this rate and station is refused: 1 for a rate outside 8,000 to
+ * 48,000; 2 for station 0; 0 where it is not refused. Where both apply it is 1.
+ */
+uint32_t morkhetta_board_refusal(uint32_t rate, uint16_t station);
+
+/* A fresh board, and one write for each of the lengths. A write takes the next
+ * `length` samples, or what is left of them where that is less. Role 0
+ * originates, any other number answers: the board listens on the other role's
+ * tones.
+ *
+ * Each write is answered by four numbers, in the order of the writes:
+ *
+ *   - the number of the refusal, 0 where the write is accepted:
+ *      3  more than 1,024 samples
+ *      4  a sample that is not finite, or beyond 1 or -1
+ *     31  more than 4,294,967,296 samples would have been accepted
+ *     The first that applies is given. A refused write changes nothing, and its
+ *     other three numbers are 0; its samples are passed over.
+ *   - the number of bytes heard in this write;
+ *   - the number of lines that ended in it;
+ *   - the answer of the last of these lines, 0 also where none ended:
+ *      0  it is shown from now on
+ *     11  it has more than 64 characters
+ *     12  it has fewer than 26, or an odd number of them
+ *     13  a character that is not 0-9 or A-F
+ *     14  the frame does not have as many bytes as it says
+ *     15  its sum is not divisible by 256
+ *     16  version or least reader is 0, the least reader is greater than the
+ *         version, or the version is 1 and the frame does not have 13 bytes
+ *     17  it is for newer readers
+ *     18  it is of another station
+ *     19  its age is not known, or greater than its stamp
+ *     20  its level is missing
+ *     34  it is good, but its water minute is not greater than that of the
+ *         reading
+ *     The first that applies is given.
+ *
+ * The function returns the number of writes that it ran: one for each length, as
+ * long as the answers have room for four more numbers. Elements of the answers
+ * behind what was written are as they were.
+ *
+ * What the board shows after the writes goes to the front of `shown`, fifteen
+ * numbers, if there is room for fifteen:
+ *
+ *   - 1, the water minute (minutes since 2000-01-01 00:00 UTC) and the level in
+ *     centimetres, as its sixteen bits (a level below zero has 65,536 added);
+ *     or three times 0 where the board shows no reading;
+ *   - how many lines got each answer since the board was fresh: 0, 11 to 20 and
+ *     34, in this order.
+ *
+ * Where `shown` is shorter nothing of it is written; where it is longer, the
+ * rest is as it was.
+ *
+ * A rate or a station that is refused (morkhetta_board_refusal says why) runs no
+ * write: the function returns 0 and writes nothing. It also returns 0 where
+ * there is no length, or no room for an answer: then `shown` has the fresh
+ * board.
+ */
+size_t morkhetta_listen(
+    uint32_t rate,
+    uint16_t station,
+    uint32_t role,
+    const float *samples, size_t samples_len,
+    const uint32_t *lengths, size_t lengths_len,
+    uint64_t *answers, size_t answers_len,
+    uint64_t *shown, size_t shown_len
+);
+
 #ifdef __cplusplus
 }
 #endif

@@ -4,3 +4,4 @@ pub mod Made
 pub mod Calls
 pub mod ReceiverCalls
 pub mod StateCalls
+pub mod Showing

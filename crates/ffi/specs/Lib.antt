@@ -6,3 +6,4 @@ pub mod Receive
 pub mod ReceiveSteps
 pub mod ReceiverState
 pub mod StateSteps
+pub mod Listen

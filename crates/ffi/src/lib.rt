@@ -2,6 +2,7 @@
 // include/morkhetta.h declares them.
 mod answers;
 mod ends;
+pub mod listen;
 pub mod receive;
 pub mod resample;
 pub mod state;

@@ -487,6 +487,25 @@ impl Demodulator {
         Demodulator { rings, core }
     }
 
+    // From the rings and the core apart.
+    pub fn of_parts(
+        mark_i: [f64; 27],
+        mark_q: [f64; 27],
+        space_i: [f64; 27],
+        space_q: [f64; 27],
+        core: Core,
+    ) -> Demodulator
+        ensures { λ r. ⌜ r ≡ demodulator (ringsOf «mark_i» «mark_q» «space_i» «space_q») core ⌝ }
+    {
+        let rings = Rings {
+            mark_i,
+            mark_q,
+            space_i,
+            space_q,
+        };
+        Demodulator { rings, core }
+    }
+
     // The latched report.
     pub fn carrier_detected(self) -> bool
         ensures { λ r. ⌜ r ≡ reported self ⌝ }

@@ -2,7 +2,6 @@
 use crate::Role;
 use crate::demod::Core;
 use crate::demod::Demodulator;
-use crate::demod::Rings;
 use crate::demod::next_sums;
 use crate::demod::sums_before;
 use crate::queue::Bytes;
@@ -173,13 +172,7 @@ fn hear(d: Demodulator, samples: &[f64], held: &mut [u8; 512], from: usize, ev: 
         core = t.core;
         i += 1;
     }
-    let rings = Rings {
-        mark_i,
-        mark_q,
-        space_i,
-        space_q,
-    };
-    let demod = Demodulator { rings, core };
+    let demod = Demodulator::of_parts(mark_i, mark_q, space_i, space_q, core);
     let events = Events {
         held: noted,
         count: notes,

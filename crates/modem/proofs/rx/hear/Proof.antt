@@ -70,10 +70,13 @@ loop-again c =
       summed-next _ _ _ s _ _ (c .before .before .before .before .before .next-sums .ensures),
     )
 
+of-parts-requires : tie.Need-of-parts-requires Inv-loop μ-loop
+of-parts-requires c κs = search needs
+
 returns : tie.Need-returns Inv-loop μ-loop
 returns c =
-    let l = c .before .loop in
-    going-end _ _ _ _ _ _ _ _ _ _ (l .inv .2) (c .loop-test .left)
+    let l = c .before .before .loop in
+    rw (c .of-parts .ensures) (going-end _ _ _ _ _ _ _ _ _ _ (l .inv .2) (c .before .loop-test .left))
 
 pub hear-spec : {M : Type 1} → statement M
 hear-spec =
@@ -92,4 +95,5 @@ hear-spec =
     add-i
     loop-less
     loop-again
+    of-parts-requires
     returns)
