@@ -45,13 +45,13 @@ pub struct Seen {
 
 impl BoardCase {
     pub fn random(index: usize, random: &mut Random) -> BoardCase {
-        let rate = if random.once_in(12) {
+        let rate = if random.once_in(16) {
             random.pick(&[0, 7_999, 48_001])
         } else {
             rate_of(index, random)
         };
         let role = random.whole(ORIGINATE, ANSWER);
-        let station = random.pick(&[7, 7, 7, 7, 7, 7, 258, 0, 65_535]);
+        let station = if random.once_in(16) { 0 } else { random.pick(&[7, 258, 65_535]) };
         let mut samples = recording(rate.max(8_000), role, station, random);
         if random.once_in(3) && !samples.is_empty() {
             // A write with it gets 4.
@@ -126,7 +126,7 @@ fn words(l: &Listened) -> String {
 /// that is off; or noise alone.
 fn recording(rate: u32, role: u32, station: u16, random: &mut Random) -> Vec<f32> {
     let mut tape = Tape::new(rate.min(48_000));
-    if random.once_in(8) {
+    if random.once_in(10) {
         let level = random.level(1e-4, 0.9);
         tape.noise(random, level, 1.5);
         return tape.finish();
@@ -135,24 +135,24 @@ fn recording(rate: u32, role: u32, station: u16, random: &mut Random) -> Vec<f32
     let how = Modulation {
         mark: tones.mark,
         space: tones.space,
-        level: random.level(0.02, 0.6),
-        offset: random.pick(&[0.0, 0.0, 0.0, 0.01, -0.01, 0.02]),
+        level: random.level(0.05, 0.6),
+        offset: random.pick(&[0.0, 0.0, 0.0, 0.01, -0.01]),
         wave: random.pick(&[Wave::Sine, Wave::Sine, Wave::Square]),
     };
     tape.preamble(how);
     tape.bytes(how, b"\n");
     let mut newest = random.whole(0, 20_000_000);
-    for _ in 0..random.whole(1, 5) {
+    for _ in 0..random.whole(2, 6) {
         let line = line(random, station, &mut newest);
         tape.bytes(how, &line);
         tape.idle(how, random.whole(0, 20) as usize);
     }
     tape.idle(how, 12);
     let seconds = tape.seconds();
-    if random.once_in(4) {
+    if random.once_in(6) {
         tape.add_noise(random, how.level * 0.5, 0.0);
     }
-    if random.once_in(5) {
+    if random.once_in(6) {
         tape.cut(random.between(0.0, seconds), random.between(0.01, 0.8));
     }
     tape.finish()
@@ -169,9 +169,9 @@ fn line(random: &mut Random, station: u16, newest: &mut u32) -> Vec<u8> {
     let version = if later == 0 && random.once_in(2) { 1 } else { random.whole(2, 255) as u8 };
     let reader = if random.once_in(6) { random.whole(1, u32::from(version)) as u8 } else { 1 };
     let station = if random.once_in(10) { station ^ 1 } else { station };
-    let age = random.pick(&[0, 1, 5, 30, 254, 254, 255]);
-    let level = random.pick(&[-32_768, -1, 0, 1, 412, 412, -250, 32_767, -32_767]) as i16;
-    let stamp = random.pick(&[*newest, *newest, *newest, *newest, 0, u32::MAX]);
+    let age = random.pick(&[0, 1, 5, 5, 30, 30, 254, 255]);
+    let level = random.pick(&[-32_768, -1, -1, 0, 1, 412, 412, 412, -250, 32_767, -32_767]) as i16;
+    let stamp = if random.once_in(12) { random.pick(&[0, u32::MAX]) } else { *newest };
     let mut frame = vec![version, reader, 13 + later as u8];
     frame.extend(station.to_be_bytes());
     frame.extend(stamp.to_be_bytes());
@@ -180,7 +180,7 @@ fn line(random: &mut Random, station: u16, newest: &mut u32) -> Vec<u8> {
     frame.extend(random.bytes(later));
     let sum = frame.iter().fold(0u8, |sum, b| sum.wrapping_add(*b));
     frame.push(sum.wrapping_neg());
-    match random.whole(0, 19) {
+    match random.whole(0, 14) {
         // The wrong length, sum, version or reader, the sum made right again.
         0 => frame[2] ^= 1,
         1 => frame[12] = frame[12].wrapping_add(1),

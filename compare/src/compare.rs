@@ -256,7 +256,7 @@ fn receiver_cases(options: &Options) -> Result<String, Found> {
 /// The board against the original's receiver and an independent judge.
 #[cfg(board)]
 fn board_cases(options: &Options) -> Result<String, Found> {
-    let cases = options.cases / 4;
+    let cases = options.cases / 8;
     let mut seen = crate::boards::Seen::default();
     for index in 0..cases {
         let mut random = Random::of_case(options.seed ^ 0x424F, index as u64);
