@@ -10,7 +10,7 @@ use lib.ListN.{length, getD, take, drop, take-append-drop}
 use lib.Seq.{drop-cons, drop-drop, drop-length, length-take-le, getD-take}
 use lib.Ieee.{Float}
 use Rattle.refusal.specs.declared.Acceptance.the-variants.{Accepted}
-use Rattle.board.proofs.Parts.{take-behind, drop-behind, part-next, part-left}
+use Rattle.numeric.specs.Parts.{take-behind, drop-behind, part-next, part-left}
 use Rattle.board.specs.Plain.{Plain, Answer, refused, heard, answer, afterAll, answersAll, eventsAll}
 use Rattle.board.specs.Held.{plainOf, eventsIn, answerOf, BoardSound, Writes}
 use Rattle.board.specs.Runs.{writesOf, numbersOf, numbersAll, writesRun, Within, Stepped, RunFrom}

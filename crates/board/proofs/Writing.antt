@@ -14,7 +14,7 @@ use Rattle.modem.specs.Rx as rx
 use Rattle.modem.specs.RxHeld.{receiverOf, RxSound}
 use Rattle.modem.specs.RxLaws.{heard-few, fresh-idle}
 use Rattle.modem.specs.RxCalls.{Accepts, ReadsAll, sound-listens, sound-few, sound-count, admitted, new-is, fresh-is, write-accepts, write-refuses, reads-all}
-use Rattle.modem.specs.declared.Role.{Role}
+use Rattle.bell103.specs.declared.Role.{Role}
 use Rattle.refusal.specs.declared.Refusal.{Refusal}
 use Rattle.refusal.specs.declared.Refusal.the-variants.{Station}
 use Rattle.refusal.specs.declared.Acceptance.{Acceptance}

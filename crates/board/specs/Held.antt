@@ -10,7 +10,7 @@ use Rattle.numeric.specs.F64.{if_then_else_}
 use Rattle.refusal.specs.Refusals.{numberOf, acceptanceOf}
 use Rattle.framing.specs.Framing as framing
 use Rattle.modem.specs.RxHeld.{receiverOf, RxSound}
-use Rattle.modem.specs.declared.Role.{Role}
+use Rattle.bell103.specs.declared.Role.{Role}
 use Rattle.refusal.specs.declared.Refusal.the-variants.{Station}
 use Rattle.refusal.specs.declared.Acceptance.{Acceptance}
 use Rattle.refusal.specs.declared.Acceptance.the-variants.{Accepted, Refused}

@@ -6,7 +6,7 @@ use lib.Dec.{eqb}
 use lib.ListN.{length}
 use lib.Ieee.{Float}
 use Rattle.numeric.specs.F64.{if_then_else_}
-use Rattle.modem.specs.declared.Role.{Role}
+use Rattle.bell103.specs.declared.Role.{Role}
 use Rattle.refusal.specs.Refusals.{Reply, replyOf, first, rateRefused}
 use Rattle.modem.specs.Queue.{notingAll}
 use Rattle.modem.specs.Rx.{Demod, heardBy, freshDemod, refusedBy}

@@ -10,7 +10,7 @@ use lib.ListN.{length, length-append}
 use lib.Ieee.{Float}
 use Rattle.numeric.specs.F64.{if_then_else_}
 use Rattle.refusal.specs.Refusals.{first, first-yes, rateRefused}
-use Rattle.modem.specs.declared.Role.{Role}
+use Rattle.bell103.specs.declared.Role.{Role}
 use Rattle.modem.specs.Samples.{allInRange}
 use Rattle.modem.specs.Queue.{notingAll}
 use Rattle.modem.specs.Rx.{heardBy}

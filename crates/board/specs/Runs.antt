@@ -5,7 +5,7 @@ use mathlib.Core.List.{List, [], _∷_, _++_}
 use lib.ListN.{length, take, drop}
 use lib.Ieee.{Float}
 use Rattle.refusal.specs.Refusals.{acceptanceOf}
-use Rattle.modem.specs.declared.Role.{Role}
+use Rattle.bell103.specs.declared.Role.{Role}
 use Rattle.refusal.specs.declared.Acceptance.the-variants.{Accepted}
 use Rattle.board.specs.Plain.{Plain, eventsAfter, eventsAll, Answer, refused, heard, fresh, after, answer, afterAll, answersAll, newNumber, newOf}
 use Rattle.board.specs.Term.{Term3}

@@ -64,8 +64,9 @@ pub record Term3 (fresh : Plain) (ws : List (List Float)) (b : Plain) (said : Li
   pub ended : length (linesAll fresh ws) ≡ endedIn said
   -- "= shown (answer 0) + sum of the other counts"
   pub judged : length (linesAll fresh ws) ≡ countOf (b .desk) 0 + total (drop 1 (b .desk .counts))
-  -- the answers and the reading are those of the lines, "judged and emptied" one after the other
+  -- the answers are those of the lines, "judged and emptied" one after the other
   pub verdicts : verdictsAll fresh ws ≡ given (fresh .desk .station) (linesAll fresh ws)
+  -- and so is the reading
   pub shown : b .desk .reading ≡ stands (fresh .desk .station) (linesAll fresh ws)
   -- each judged line at its place: its answer, and what stands after it, from what stood before it
   pub each :

@@ -7,7 +7,7 @@ use native.Mathlib.Omega.{arith}
 use lib.IntN.{ℤ}
 use lib.ListN.{getD, drop}
 use lib.Ieee.{Float}
-use Rattle.modem.specs.declared.Role.{Role}
+use Rattle.bell103.specs.declared.Role.{Role}
 use Rattle.tide.specs.Hex.{hexLine}
 use Rattle.tide.specs.Frame.{total, readerOf, Intact, Writer, Rules, lineBy}
 use Rattle.tide.specs.Judge.{Shown, none, shows, Verdict, judge, ofLine}

@@ -1,5 +1,5 @@
 // The board: the receiver, and the desk that judges the lines.
-use modem::Role;
+use bell103::Role;
 use modem::rx::Rx;
 use refusal::Acceptance;
 use refusal::Refusal;

@@ -1,7 +1,7 @@
 // A list of writes from a fresh board on.
 use crate::board::Answer;
 use crate::board::Board;
-use modem::Role;
+use bell103::Role;
 use refusal::Acceptance;
 ghost use mathlib.Core.Path.{_≡_};
 ghost use mathlib.Core.List.{[], _∷_, _++_};

@@ -1,11 +1,11 @@
 // The detector on one energy, and a block of zero samples.
 use crate::print;
-use modem::Role;
-use modem::selftest::Rise;
-use modem::selftest::Verdict;
-use modem::selftest::block_verdict;
-use modem::selftest::detector_rise;
-use modem::tones;
+use bell103::Role;
+use bell103::tones;
+use detection::selftest::Rise;
+use detection::selftest::Verdict;
+use detection::selftest::block_verdict;
+use detection::selftest::detector_rise;
 
 fn rise(r: Rise, updates: u32) {
     match r {

@@ -16,15 +16,15 @@ use mir.Val.{toZ, ofZ, SFits, Fits}
 use mir.ValLaws.{toZ-ofZ}
 use borrow.Author.Tests.{ltb-true, lt-leb}
 use Rattle.refusal.specs.Refusals.{replyOf, acceptanceOf}
-use Rattle.modem.specs.declared.Role.{Role}
+use Rattle.bell103.specs.declared.Role.{Role}
 use Rattle.tide.specs.Frame.{bitsOf}
 use Rattle.tide.specs.Judge.{Shown}
 use Rattle.board.specs.Plain.{newNumber, newOf}
 use Rattle.board.specs.Held.{plainOf}
 use Rattle.board.specs.Runs.{Listens}
 use Rattle.board.specs.declared.writes.Listened.{Listened}
-use Rattle.ffi.specs.Answers.{numberIn}
-use Rattle.ffi.specs.Receive.{roleOf}
+use Rattle.calls.specs.Answers.{numberIn}
+use Rattle.calls.specs.Receive.{roleOf}
 use Rattle.ffi.specs.Listen.{shownNumbers, shownIn, Heard}
 
 -- ---- the bits of a level

@@ -1,9 +1,2 @@
--- What the functions exported to C give.
-pub mod Answers
-pub mod Resample
-pub mod Steps
-pub mod Receive
-pub mod ReceiveSteps
-pub mod ReceiverState
-pub mod StateSteps
+-- What the functions exported to C give, beside what `calls` and `states` say.
 pub mod Listen

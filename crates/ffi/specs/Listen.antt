@@ -13,7 +13,7 @@ use Rattle.board.specs.Plain.{Plain, newNumber}
 use Rattle.board.specs.Held.{plainOf}
 use Rattle.board.specs.Runs.{Listens}
 use Rattle.board.specs.declared.writes.Listened.{Listened}
-use Rattle.ffi.specs.Receive.{roleOf}
+use Rattle.calls.specs.Receive.{roleOf}
 
 -- what a board shows, as three numbers: 1, its water minute and the sixteen bits of its level; or three times 0
 abbrev pub shownNumbers : Shown → List ℕ

@@ -1,8 +1,5 @@
 // Functions for hosts in C and Rust, and for runs against the Rust original: each runs a whole list of calls from a fresh state.
 // include/morkhetta.h declares them.
-mod answers;
-mod ends;
 pub mod listen;
 pub mod receive;
 pub mod resample;
-pub mod state;

@@ -1,8 +1,8 @@
 // The board, exported to C.
-use crate::answers::number_in;
-use crate::receive::role_of;
 use board::Board;
 use board::listen;
+use calls::answers::number_in;
+use calls::receive::role_of;
 use refusal::rate_ok;
 use tide::Reading;
 ghost use mathlib.Core.Path.{_≡_};

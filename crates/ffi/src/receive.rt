@@ -1,180 +1,9 @@
 // The receiver, exported to C.
-use crate::answers::Heard;
-use crate::answers::number_in;
-use crate::answers::one_if;
-use crate::answers::tell_heard;
-use crate::ends::part_end;
-use crate::ends::smaller;
-use modem::Event;
-use modem::Role;
-use modem::rx::Rx;
-use refusal::Acceptance;
+use calls::receive::received_from_fresh;
+use states::state::state_from_fresh;
 ghost use mathlib.Core.Path.{_≡_};
-ghost use Prim.Native.Nat.{_+_, _*_, _≤_};
-ghost use lib.ListN.{length, take, drop};
-ghost use Rattle.modem.specs.Queue.{eventsOf};
-ghost use Rattle.modem.specs.RxHeld.{receiverOf, RxSound};
-ghost use Rattle.ffi.specs.Receive.{called, callsFor, ran, receivedFrom, receiveRun, roleOf};
-ghost use Rattle.ffi.specs.ReceiveSteps.{bitIn, Takes, Calls, Within, Stepped};
-
-// 1 for up, 0 for down and for no event.
-fn event_byte(e: Event) -> u8
-    ensures { λ r. ⌜ r ≡ bitIn (eventsOf e) ⌝ }
-{
-    match e {
-        Event::Nothing => 0,
-        Event::CarrierUp => 1,
-        Event::CarrierDown => 0,
-    }
-}
-
-// How many events were taken, and the receiver.
-pub struct TakenEvents {
-    pub count: usize,
-    pub state: Rx,
-}
-
-// As many events as wait and have room in buf, oldest first.
-fn take_events(rx: Rx, buf: &mut [u8]) -> TakenEvents
-    requires { ⌜ RxSound rx ⌝ }
-    ensures { λ r. ⌜ Takes rx (now (buf .entry)) (r .count) (r .state) (now (buf .exit)) ⌝ }
-{
-    let waiting = rx.events;
-    let count = smaller(buf.len(), waiting.count);
-    let mut state = rx;
-    let mut i = 0;
-    while i < count {
-        let t = state.events();
-        let event = t.event;
-        buf[i] = event_byte(event);
-        state = t.state;
-        i += 1;
-    }
-    TakenEvents { count, state }
-}
-
-// A call's answer, and the receiver.
-pub struct Called {
-    pub answer: Heard,
-    pub state: Rx,
-}
-
-// A write, a read into the whole of bytes, and events into the whole of events.
-pub fn make_call(rx: Rx, samples: &[f32], bytes: &mut [u8], events: &mut [u8]) -> Called
-    requires { ⌜ RxSound rx ⌝ }
-    ensures { λ r. ⌜ Calls (called (receiverOf rx) (now (samples .entry)) (length (now (bytes .entry))) (length (now (events .entry)))) (now (bytes .entry)) (now (events .entry)) (r .answer) (r .state) (now (bytes .exit)) (now (events .exit)) ⌝ }
-{
-    let w = rx.write(samples);
-    let written = w.state;
-    let refusal = w.answer;
-    let r = written.read(bytes);
-    let heard = r.state;
-    let t = take_events(heard, events);
-    let state = t.state;
-    let answer = Heard {
-        number: number_in(refusal),
-        bytes: r.count,
-        events: t.count,
-        carrier: one_if(state.carrier_detected()),
-        errors: state.framing_errors(),
-    };
-    Called { answer, state }
-}
-
-// Where a list of calls stands: the receiver, and how much of the samples, the bytes and the events is behind it.
-struct Place {
-    state: Rx,
-    read: usize,
-    bytes: usize,
-    events: usize,
-}
-
-// A script's three numbers for a call: samples in the write, bytes to read at most, events to take at most.
-pub struct Call {
-    pub samples: u32,
-    pub bytes: u32,
-    pub events: u32,
-}
-
-// One call, and its five numbers at `at` of the answers.
-fn one_call(
-    p: Place,
-    k: Call,
-    samples: &[f32],
-    bytes: &mut [u8],
-    events: &mut [u8],
-    answers: &mut [u64],
-    at: usize,
-) -> Place
-    requires { ⌜ Within p (now samples) (now bytes) (now events) × (at + 5 ≤ length (now answers)) ⌝ }
-    ensures { λ r. ⌜ Stepped p r k (now (samples .entry)) (now (bytes .entry)) (now (bytes .exit)) (now (events .entry)) (now (events .exit)) (take at (now (answers .entry))) (drop (at + 5) (now (answers .entry))) (now (answers .exit)) ⌝ }
-    ensures { λ r. ⌜ Within r (now (samples .entry)) (now (bytes .exit)) (now (events .exit)) ⌝ }
-{
-    let state = p.state;
-    let read = p.read;
-    let b = p.bytes;
-    let e = p.events;
-    let end = part_end(read, k.samples, samples.len());
-    let b_end = part_end(b, k.bytes, bytes.len());
-    let e_end = part_end(e, k.events, events.len());
-    let c = make_call(
-        state,
-        &samples[read..end],
-        &mut bytes[b..b_end],
-        &mut events[e..e_end],
-    );
-    let told = c.answer;
-    tell_heard(answers, at, told);
-    let next = c.state;
-    Place {
-        state: next,
-        read: end,
-        bytes: b + told.bytes,
-        events: e + told.events,
-    }
-}
-
-// Each call of the script that has room for its answer.
-fn all_calls(
-    state: Rx,
-    samples: &[f32],
-    script: &[u32],
-    bytes: &mut [u8],
-    events: &mut [u8],
-    answers: &mut [u64],
-) -> usize
-    requires { ⌜ RxSound state ⌝ }
-    ensures { λ r. ⌜ ran r (now (bytes .exit)) (now (events .exit)) (now (answers .exit)) ≡ receivedFrom (callsFor (now (script .entry)) (now (answers .entry))) (receiverOf state) (now (samples .entry)) (now (script .entry)) (now (bytes .entry)) (now (events .entry)) (now (answers .entry)) ⌝ }
-{
-    let calls = smaller(script.len() / 3, answers.len() / 5);
-    let mut place = Place {
-        state,
-        read: 0,
-        bytes: 0,
-        events: 0,
-    };
-    let mut i = 0;
-    while i < calls {
-        let k = Call {
-            samples: script[3 * i],
-            bytes: script[3 * i + 1],
-            events: script[3 * i + 2],
-        };
-        place = one_call(place, k, samples, bytes, events, answers, 5 * i);
-        i += 1;
-    }
-    calls
-}
-
-pub fn role_of(n: u32) -> Role
-    ensures { λ r. ⌜ r ≡ roleOf n ⌝ }
-{
-    if n == 0 {
-        Role::Originate
-    } else {
-        Role::Answer
-    }
-}
+ghost use Rattle.calls.specs.Receive.{ran, receiveRun};
+ghost use Rattle.states.specs.ReceiverState.{shown, stateRun};
 
 #[no_mangle]
 pub extern "C" fn morkhetta_receive(
@@ -188,11 +17,18 @@ pub extern "C" fn morkhetta_receive(
 ) -> usize
     ensures { λ r. ⌜ ran r (now (bytes .exit)) (now (events .exit)) (now (answers .exit)) ≡ receiveRun rate role (now (samples .entry)) (now (script .entry)) (now (bytes .entry)) (now (events .entry)) (now (answers .entry)) ⌝ }
 {
-    let made = Rx::new(rate, role_of(role));
-    let answer = made.answer;
-    let state = made.state;
-    match answer {
-        Acceptance::Refused(_) => 0,
-        Acceptance::Accepted => all_calls(state, samples, script, bytes, events, answers),
-    }
+    received_from_fresh(rate, role, samples, script, bytes, events, answers)
+}
+
+#[no_mangle]
+pub extern "C" fn morkhetta_receiver_state(
+    rate: u32,
+    role: u32,
+    samples: &[f32],
+    script: &[u32],
+    state: &mut [f64],
+) -> u32
+    ensures { λ r. ⌜ shown r (now (state .exit)) ≡ stateRun rate role (now (samples .entry)) (now (script .entry)) (now (state .entry)) ⌝ }
+{
+    state_from_fresh(rate, role, samples, script, state)
 }

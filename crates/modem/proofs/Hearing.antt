@@ -9,12 +9,13 @@ use lib.ListN.{length, getD, take, drop, length-append}
 use lib.Ieee.{Float, nan}
 use Rattle.numeric.specs.Fold.{fold}
 use Rattle.framing.specs.Frame.{bytesOf}
-use Rattle.modem.specs.Queue.{noted, notingAll, eventsOf, EventsHeld, EventsWait, Kept}
+use Rattle.modem.specs.Queue.{noted, notingAll, EventsHeld, EventsWait, Kept}
+use Rattle.demodulation.specs.Demod.{eventsOf}
 use Rattle.modem.specs.QueueLaws.{noting-all-append}
-use Rattle.modem.specs.Demod.{Step, hearing, stepOf, Tuned}
-use Rattle.modem.specs.DemodLaws.{hearing-turn, hearing-end, after-turn, bytes-turn, step-tuned}
+use Rattle.demodulation.specs.Demod.{Step, hearing, stepOf, Tuned}
+use Rattle.demodulation.specs.DemodLaws.{hearing-turn, hearing-end, after-turn, bytes-turn, step-tuned}
 use Rattle.modem.specs.RxHeld.{Hearable, HearsInto}
-use Rattle.modem.specs.declared.demod.Demodulator.{Demodulator}
+use Rattle.demodulation.specs.declared.demod.Demodulator.{Demodulator}
 use Rattle.modem.specs.declared.queue.Events.{Events}
 
 -- from sample i on, the rest does what the whole does from the start

@@ -16,9 +16,9 @@ use Rattle.resampling.specs.ResampleHeld.{stateOf, Sound}
 use Rattle.modem.specs.Rx.{resampled, Receiver, refusedBy, refusalOf, acceptedBy, wrote, written, unlessRefused}
 use Rattle.modem.specs.Samples.{allInRange}
 use Rattle.framing.specs.Framing.{held-most}
-use Rattle.modem.specs.Demod.{hearing}
-use Rattle.modem.specs.DemodLaws.{hearing-few}
-use Rattle.modem.specs.declared.demod.Demodulator.{Demodulator}
+use Rattle.demodulation.specs.Demod.{hearing}
+use Rattle.demodulation.specs.DemodLaws.{hearing-few}
+use Rattle.demodulation.specs.declared.demod.Demodulator.{Demodulator}
 use Rattle.modem.specs.RxHeld.{Resamples}
 use Rattle.refusal.specs.declared.Acceptance.{Acceptance}
 use Rattle.refusal.specs.declared.Acceptance.the-variants as acceptance

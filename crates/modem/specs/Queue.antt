@@ -10,8 +10,9 @@ use Rattle.numeric.specs.Fold.{fold}
 use Rattle.modem.specs.declared.queue.Bytes.{Bytes}
 use Rattle.modem.specs.declared.queue.Drained.{Drained}
 use Rattle.modem.specs.declared.queue.Events.{Events}
-use Rattle.modem.specs.declared.queue.Event.{Event}
-use Rattle.modem.specs.declared.queue.Event.the-variants.{Nothing, CarrierUp, CarrierDown}
+use Rattle.demodulation.specs.declared.demod.Event.{Event}
+use Rattle.demodulation.specs.Demod.{eventsOf}
+use Rattle.demodulation.specs.declared.demod.Event.the-variants.{Nothing, CarrierUp, CarrierDown}
 use Rattle.modem.specs.declared.queue.NextEvent.{NextEvent}
 
 -- the m elements from place k on stand at the front, in as many places
@@ -92,12 +93,6 @@ noting events e = (if ltb (length events) mostEvents then events else drop 1 eve
 -- a list of events, one after the other
 unfoldable pub notingAll : List Bool → List Bool → List Bool
 notingAll events es = fold noting events es
-
--- an answer as a list: one event, or none
-abbrev pub eventsOf : Event → List Bool
-eventsOf Nothing = []
-eventsOf CarrierUp = true ∷ []
-eventsOf CarrierDown = false ∷ []
 
 -- a change of the carrier as an event
 abbrev pub eventOf : Bool → Event

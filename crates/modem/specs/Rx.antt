@@ -8,11 +8,11 @@ use lib.Ieee.{Float}
 use Rattle.numeric.specs.F64.{if_then_else_}
 use Rattle.refusal.specs.Refusals.{dspRate, Reply, given, refused, first, replyOf, rateRefused}
 use Rattle.resampling.specs.Resample as resample
-use Rattle.modem.specs.Demod.{hearing, freshDemodulator}
+use Rattle.demodulation.specs.Demod.{hearing, freshDemodulator}
 use Rattle.modem.specs.Samples.{allInRange}
 use Rattle.modem.specs.Queue.{notingAll, readCount, readInto, readRest}
-use Rattle.modem.specs.declared.Role.{Role}
-use Rattle.modem.specs.declared.demod.Demodulator.{Demodulator}
+use Rattle.bell103.specs.declared.Role.{Role}
+use Rattle.demodulation.specs.declared.demod.Demodulator.{Demodulator}
 
 -- ---- what hears
 pub record Demod : Type 0 where

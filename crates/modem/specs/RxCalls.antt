@@ -18,7 +18,7 @@ use Rattle.resampling.specs.ResampleHeld.{stateOf}
 use Rattle.modem.specs.Rx.{Receiver, receiver, heardBy, freshReceiver, freshDemod, made, newOf, refusedBy, refusalOf, acceptedBy, Written, wrote, written, unlessRefused, ReadOut, readOut, readOf}
 use Rattle.modem.specs.RxHeld.{receiverOf, RxSound}
 use Rattle.modem.specs.RxLaws.{Listens}
-use Rattle.modem.specs.declared.Role.{Role}
+use Rattle.bell103.specs.declared.Role.{Role}
 use Rattle.refusal.specs.declared.Refusal.{Refusal}
 use Rattle.refusal.specs.declared.Refusal.the-variants as refusal
 use Rattle.refusal.specs.declared.Acceptance.the-variants as acceptance

@@ -6,10 +6,10 @@ use lib.ListN.{length, take}
 use lib.Ieee.{Float}
 use Rattle.resampling.specs.Resample.{State, state}
 use Rattle.resampling.specs.ResampleHeld.{stateOf, Sound}
-use Rattle.modem.specs.Demod.{hearing, Tuned}
+use Rattle.demodulation.specs.Demod.{hearing, Tuned}
 use Rattle.modem.specs.Queue.{queued, noted, BytesHeld, EventsHeld, EventsWait, notingAll, Kept}
 use Rattle.modem.specs.Rx.{Receiver, receiver, demod, resampled}
-use Rattle.modem.specs.declared.demod.Demodulator.{Demodulator}
+use Rattle.demodulation.specs.declared.demod.Demodulator.{Demodulator}
 use Rattle.modem.specs.declared.queue.Events.{Events}
 use Rattle.resampling.specs.declared.resample.Resampler.{Resampler}
 use Rattle.modem.specs.declared.rx.Rx.{Rx}

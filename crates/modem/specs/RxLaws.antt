@@ -12,10 +12,10 @@ use Rattle.refusal.specs.Refusals.{dspRate, rateRefused}
 use Rattle.resampling.specs.Resample as resample
 use Rattle.resampling.specs.ResampleLaws.{ran-few, ran-none, output-few}
 use Rattle.framing.specs.Framing.{held, AreBytes}
-use Rattle.modem.specs.Demod.{hearing, freshDemodulator, Tuned}
-use Rattle.modem.specs.DemodLaws.{hearing-few, hearing-bytes, hearing-tuned, fresh-tuned}
+use Rattle.demodulation.specs.Demod.{hearing, freshDemodulator, Tuned}
+use Rattle.demodulation.specs.DemodLaws.{hearing-few, hearing-bytes, hearing-tuned, fresh-tuned}
 use Rattle.modem.specs.Rx.{Demod, Heard, resampled, heardBy, freshDemod}
-use Rattle.modem.specs.declared.Role.{Role}
+use Rattle.bell103.specs.declared.Role.{Role}
 
 -- a Demod that a fresh one and its writes gave: it goes down to 8,000 Hz
 pub record Listens (d : Demod) : Type 0 where

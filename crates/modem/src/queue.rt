@@ -1,4 +1,5 @@
 // The receiver's two queues, oldest first: bytes heard, and carrier events.
+use demodulation::demod::Event;
 use framing::frame::Heard;
 ghost use mathlib.Core.Path.{_≡_};
 ghost use mathlib.Core.List.{[], _∷_, _++_};
@@ -6,7 +7,8 @@ ghost use Prim.Native.Nat.{_+_, _≤_, _<_, min};
 ghost use lib.ListN.{length, take, drop};
 ghost use Rattle.framing.specs.Frame.{bytesOf};
 ghost use Rattle.modem.specs.Queue.{BytesHeld, BytesWait, Kept, Moved, Drains};
-ghost use Rattle.modem.specs.Queue.{EventsHeld, EventsWait, eventsIn, noted, noting, notingAll, eventsOf, eventOf, Pops};
+ghost use Rattle.modem.specs.Queue.{EventsHeld, EventsWait, eventsIn, noted, noting, notingAll, eventOf, Pops};
+ghost use Rattle.demodulation.specs.Demod.{eventsOf};
 
 // Received bytes: the first `count` wait.
 pub struct Bytes {
@@ -102,13 +104,6 @@ impl Bytes {
 pub struct Events {
     pub held: [bool; 64],
     pub count: usize,
-}
-
-// What one step brought, or what one call takes off the queue.
-pub enum Event {
-    Nothing,
-    CarrierUp,
-    CarrierDown,
 }
 
 // The oldest event, and the queue after it.

@@ -1,16 +1,16 @@
 // The receiver: device samples in, bytes and carrier events out.
-use crate::Role;
-use crate::demod::Core;
-use crate::demod::Demodulator;
-use crate::demod::next_sums;
-use crate::demod::sums_before;
 use crate::queue::Bytes;
-use crate::queue::Event;
 use crate::queue::Events;
 use crate::queue::keep_heard;
 use crate::queue::note_into;
 use crate::samples::all_in_range;
 use crate::samples::widen_into;
+use bell103::Role;
+use demodulation::demod::Core;
+use demodulation::demod::Demodulator;
+use demodulation::demod::Event;
+use demodulation::demod::next_sums;
+use demodulation::demod::sums_before;
 use refusal::Acceptance;
 use refusal::Counted;
 use refusal::DSP_RATE;
@@ -23,7 +23,7 @@ ghost use lib.ListN.{length};
 ghost use mathlib.Core.Bool.{false};
 ghost use Rattle.refusal.specs.Refusals.{acceptanceOf, isAccepted, countIn, replyOf, rateRefused};
 ghost use Rattle.resampling.specs.ResampleHeld.{Sound};
-ghost use Rattle.modem.specs.Queue.{eventsOf};
+ghost use Rattle.demodulation.specs.Demod.{eventsOf};
 ghost use Rattle.modem.specs.Rx.{newOf, made, freshReceiver, refusedBy, acceptedBy, written, wrote, readOf, readOut, eventOf, taken, carrierOf, errorsOf};
 ghost use Rattle.modem.specs.RxHeld.{receiverOf, RxSound, Resamples, Hearable, HearsInto};
 

@@ -1,5 +1,6 @@
 -- The definitions that the contracts of `numeric` cite: F64 to Patterns, and Counts. The laws of floats that other crates cite: Whole,
 -- Bounds, Rounding, Counts. Taps proves one law of Counts, and Examples has values worked out.
+-- Fold, Tested, Loops and Parts: lists, tests and loops, for all crates.
 pub mod F64
 pub mod Sine
 pub mod Root
@@ -14,3 +15,4 @@ pub mod Examples
 pub mod Fold
 pub mod Tested
 pub mod Loops
+pub mod Parts

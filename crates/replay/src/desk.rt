@@ -9,7 +9,7 @@ use crate::floats::singles;
 use crate::print;
 use crate::receiver;
 use crate::resampler;
-use modem::Role;
+use bell103::Role;
 use modem::rx::Rx;
 use resampling::resample::Resampler;
 ghost use Prim.Native.Nat.{_≤_};

@@ -1,5 +1,5 @@
 // Words, numbers and answers on standard output.
-use modem::Event;
+use demodulation::demod::Event;
 use refusal::Acceptance;
 use refusal::Counted;
 

@@ -1,6 +1,6 @@
 // The receiver's calls, and the line that each prints.
 use crate::print;
-use modem::Role;
+use bell103::Role;
 use modem::rx::Rx;
 ghost use Prim.Native.Nat.{_≤_};
 ghost use mathlib.Core.Path.{_≡_};

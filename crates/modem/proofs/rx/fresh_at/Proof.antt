@@ -2,7 +2,7 @@
 use mathlib.Core.Path.{_≡_, ap, _∙_}
 use Rattle.resampling.specs.Resample.{State}
 use Rattle.resampling.specs.ResampleHeld.{stateOf}
-use Rattle.modem.specs.DemodLaws.{fresh-tuned}
+use Rattle.demodulation.specs.DemodLaws.{fresh-tuned}
 use Rattle.modem.proofs.Receiving.{fresh-resampler, fresh-dst}
 use native.Mathlib.Omega.{arith}
 use Rattle.modem.specs.Rx.{freshReceiver, freshDemod}

@@ -2,11 +2,11 @@
 use native.Mathlib.Omega.{arith}
 use Prim.Native.Nat.{_+_, _-_, _≤_}
 use lib.ListN.{length}
-use Rattle.modem.proofs.Summing.{summed-step, summed-next}
+use Rattle.demodulation.specs.SummingLaws.{summed-step, summed-next}
 use Rattle.modem.proofs.Hearing.{Going, going-start, room, going-on, going-end}
-use Rattle.modem.specs.Demod.{ringsOf, demodulator, hearing}
+use Rattle.demodulation.specs.Demod.{ringsOf, demodulator, hearing}
 use Rattle.modem.specs.Queue.{eventsIn}
-use Rattle.modem.specs.Summing.{Summed}
+use Rattle.demodulation.specs.Summing.{Summed}
 use borrow.Author.Needs.{needs}
 use Rattle.modem.proofs.rx.hear.Statement.{statement}
 use Rattle.modem.proofs.rx.hear.Tie as tie

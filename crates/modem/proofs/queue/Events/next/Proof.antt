@@ -7,7 +7,8 @@ use native.Mathlib.Omega.{arith}
 use lib.ListN.{getD}
 use lib.Seq.{take-take, take-suc}
 use borrow.Author.Needs.{needs}
-use Rattle.modem.specs.Queue.{EventsHeld, Moved, Pops, eventOf, eventsOf}
+use Rattle.modem.specs.Queue.{EventsHeld, Moved, Pops, eventOf}
+use Rattle.demodulation.specs.Demod.{eventsOf}
 use Rattle.modem.specs.declared.queue.Events.{Events}
 use Rattle.modem.proofs.Moves.{moved-rest}
 use Rattle.modem.proofs.queue.Events.next.Statement.{statement}

@@ -1,0 +1,32 @@
+-- Rates, roles and tones. Assumes nothing.
+use Prim.Native.Nat.{ℕ}
+use Rattle.refusal.specs.Refusals.{dspRate}
+use mathlib.Core.Path.{_≡_, refl}
+use lib.Ieee.{Float}
+use Rattle.numeric.specs.F64.{_⊘_, whole}
+use Rattle.bell103.specs.declared.Role.{Role}
+use Rattle.bell103.specs.declared.Role.the-variants.{Originate, Answer}
+use Rattle.bell103.specs.declared.TonePair.{TonePair}
+
+-- Bell 103's symbols a second
+abbrev pub baud : ℕ
+baud = 300
+
+-- "handed to the Rust as f64": 8000.0 / 300.0, rounded once
+abbrev pub samplesPerSymbol : Float
+samplesPerSymbol = whole dspRate ⊘ whole baud
+
+-- "It listens on the other role's tones"
+abbrev pub otherRole : Role → Role
+otherRole Originate = Answer
+otherRole Answer = Originate
+
+-- the other of the other is the role itself
+pub other-other : (r : Role) → otherRole (otherRole r) ≡ r
+other-other Originate = refl
+other-other Answer = refl
+
+-- the tones that a role sends, in hertz: those of Bell 103
+unfoldable pub tonesOf : Role → TonePair
+tonesOf Originate = record { mark = whole 1270; space = whole 1070 }
+tonesOf Answer = record { mark = whole 2225; space = whole 2025 }

@@ -1,0 +1,172 @@
+-- Calls, one after the other, over lists. Assumes nothing.
+use Prim.Native.Nat.{ℕ, zero, suc, min, _+_, _*_, _-_, _<_, _≤_, zero-le}
+use mathlib.Core.Path.{_≡_, refl, sym, ap}
+use mathlib.Core.Bool.{true, false}
+use mathlib.Core.List.{List, [], _∷_, _++_, append-assoc}
+use native.Mathlib.Nat.{add-zero, zero-add, add-assoc}
+use native.Mathlib.Numerals.{add-one}
+use native.Mathlib.Omega.{arith}
+use lib.ListN.{length, getD, take, drop, length-append, length-drop, take-append-drop}
+use lib.Seq.{drop-cons, length-take-le}
+use lib.Ieee.{Float}
+use Rattle.refusal.specs.Refusals.{Reply, given, refused, ratesRefused}
+use Rattle.resampling.specs.Resample.{State, fresh, Made, made, newOf, Ran, Outcome, outcome, laid, unlessRefused, refusalOf, ranOver, lenOf, processed}
+use Rattle.resampling.specs.ResampleHeld.{stateOf, Sound}
+use Rattle.resampling.specs.declared.resample.Resampler.{Resampler}
+use Rattle.calls.specs.Made.{accepted-only, refused-only}
+use Rattle.numeric.specs.Parts.{take-behind, drop-behind, part-next, part-left}
+use Rattle.calls.proofs.Parts.{next-two, rest-is, rest-put}
+use Rattle.calls.specs.Answers.{numberIn, countIn, told}
+use Rattle.calls.specs.declared.answers.Told.{Told}
+use Rattle.calls.specs.Resample.{Run, ran, after, processedFrom, lengthsFrom}
+use Rattle.calls.specs.Steps.{Within, Stepped, outcomeAt}
+use Rattle.calls.specs.declared.resample.Place.{Place}
+
+-- ---- calls before calls
+pub after-after : (i j : ℕ) (ys zs : List Float) (us vs : List ℕ) (r : Run) → after i ys us (after j zs vs r) ≡ after (i + j) (ys ++ zs) (us ++ vs) r
+after-after i j ys zs us vs r = rw (append-assoc ys, append-assoc us, add-assoc i)
+
+pub after-start : (r : Run) → after 0 [] [] r ≡ r
+after-start r = rw (zero-add (r .calls))
+
+-- ---- no more than was written
+pub count-within : (s : State) (xs out : List Float) → countIn (processed s xs out .answer) ≤ length (processed s xs out .out)
+unfolding processed
+count-within s xs out = by (refusalOf s (length xs) (length out)) (ranOver s (length out) xs)
+  where
+    by : (k : ℕ) (r : Ran) → countIn (unlessRefused k s out (laid s out r) .answer) ≤ length (unlessRefused k s out (laid s out r) .out)
+    by zero r = rw length-append (omega arith)
+    by (suc k) r = zero-le
+
+-- ---- where no call is left, or no room for an answer
+pub lengths-stop : (s : State) (ns ans : List ℕ) → (0 < length ns → length ans < 2) → lengthsFrom s ns ans ≡ ran 0 [] ans
+unfolding lengthsFrom
+lengths-stop s [] ans h = refl
+lengths-stop s (n ∷ ns) [] h = refl
+lengths-stop s (n ∷ ns) (a ∷ []) h = refl
+lengths-stop s (n ∷ ns) (a ∷ b ∷ ans) h =
+    let l : length (a ∷ b ∷ ans) < 2 = h (omega arith) in
+    absurd (omega arith)
+
+pub processed-stop : (s : State) (xs : List Float) (ns : List ℕ) (out : List Float) (ans : List ℕ) → (0 < length ns → length ans < 2)
+    → processedFrom s xs ns out ans ≡ ran 0 out ans
+unfolding processedFrom
+processed-stop s xs [] out ans h = refl
+processed-stop s xs (n ∷ ns) out [] h = refl
+processed-stop s xs (n ∷ ns) out (a ∷ []) h = refl
+processed-stop s xs (n ∷ ns) out (a ∷ b ∷ ans) h =
+    let l : length (a ∷ b ∷ ans) < 2 = h (omega arith) in
+    absurd (omega arith)
+
+-- ---- one call more: the i-th length, with its answer behind the first 2 * i numbers of ans
+module _ (ns : List ℕ) (i : ℕ) (ans ans′ : List ℕ) (some : i < length ns) (room : 2 * i + 2 ≤ length ans) where
+  double : 2 * (i + 1) ≡ 2 * i + 2
+  double = omega arith
+
+  answered : (r : Reply ℕ) → ans′ ≡ take (2 * i) ans ++ (told r ++ drop (2 * i + 2) ans) → take (2 * (i + 1)) ans′ ≡ take (2 * i) ans ++ told r
+  answered r e = rw (e, double) (take-behind (take (2 * i) ans) (told r ++ drop (2 * i + 2) ans) (2 * i) 2 (length-take-le (2 * i) ans (omega arith)))
+
+  unanswered : (r : Reply ℕ) → ans′ ≡ take (2 * i) ans ++ (told r ++ drop (2 * i + 2) ans) → drop (2 * (i + 1)) ans′ ≡ drop (2 * i + 2) ans
+  unanswered r e = rw (e, double) (drop-behind (take (2 * i) ans) (told r ++ drop (2 * i + 2) ans) (2 * i) 2 (length-take-le (2 * i) ans (omega arith)))
+
+  next : drop i ns ≡ getD ns i 0 ∷ drop (i + 1) ns
+  next = rw (add-one i) (drop-cons ns i 0 some)
+
+  pub lengths-step : (s : State) → ans′ ≡ take (2 * i) ans ++ (told (lenOf s (getD ns i 0)) ++ drop (2 * i + 2) ans)
+      → after (i + 1) [] (take (2 * (i + 1)) ans′) (lengthsFrom s (drop (i + 1) ns) (drop (2 * (i + 1)) ans′)) ≡ after i [] (take (2 * i) ans) (lengthsFrom s (drop i ns) (drop (2 * i) ans))
+  unfolding lengthsFrom
+  lengths-step s e =
+      let r = lenOf s (getD ns i 0) in
+      rw (answered r e, unanswered r e, next, next-two 0 ans (2 * i) room)
+      (sym (after-after i 1 [] [] (take (2 * i) ans) (told r) (lengthsFrom s (drop (i + 1) ns) (drop (2 * i + 2) ans))))
+
+  -- from the place p to q
+  module _ (p q : Place) (xs out out′ : List Float) (within : p .written ≤ length out)
+      (step : Stepped p q (getD ns i 0) xs out out′ (take (2 * i) ans) (drop (2 * i + 2) ans) ans′) where
+    abbrev gives : Outcome
+    gives = outcomeAt p (getD ns i 0) xs out
+
+    abbrev count : ℕ
+    count = countIn (gives .answer)
+
+    front : length (take (p .written) out) ≡ p .written
+    front = length-take-le (p .written) out within
+
+    wrote : take (q .written) out′ ≡ take (p .written) out ++ take count (gives .out)
+    wrote = rw (step .output, step .written) (take-behind (take (p .written) out) (gives .out) (p .written) count front)
+
+    unwritten : drop (q .written) out′ ≡ drop count (gives .out)
+    unwritten = rw (step .output, step .written) (drop-behind (take (p .written) out) (gives .out) (p .written) count front)
+
+    pub processed-step : after (i + 1) (take (q .written) out′) (take (2 * (i + 1)) ans′) (processedFrom (stateOf (q .state)) (drop (q .read) xs) (drop (i + 1) ns) (drop (q .written) out′) (drop (2 * (i + 1)) ans′))
+        ≡ after i (take (p .written) out) (take (2 * i) ans) (processedFrom (stateOf (p .state)) (drop (p .read) xs) (drop i ns) (drop (p .written) out) (drop (2 * i) ans))
+    unfolding processedFrom
+    processed-step =
+        let r = gives .answer in
+        rw (wrote, unwritten, step .state, step .left, answered r (step .answers), unanswered r (step .answers), next, next-two 0 ans (2 * i) room)
+        (sym (after-after i 1 (take (p .written) out) (take count (gives .out)) (take (2 * i) ans) (told r)
+        (processedFrom (gives .state) (drop (getD ns i 0) (drop (p .read) xs)) (drop (i + 1) ns) (drop count (gives .out)) (drop (2 * i + 2) ans))))
+
+-- ---- the last call
+-- i calls of those that have room
+module _ (ns : List ℕ) (i : ℕ) (ans : List ℕ) (full : i < length ns → length ans < 2 * i + 2) where
+  none : 0 < length (drop i ns) → length (drop (2 * i) ans) < 2
+  none h =
+      let l : 0 < length ns - i = rw length-drop at h in
+      let f = full (omega arith) in
+      rw length-drop (omega arith)
+
+  pub lengths-end : (s : State) → after i [] (take (2 * i) ans) (lengthsFrom s (drop i ns) (drop (2 * i) ans)) ≡ ran i [] ans
+  lengths-end s = rw (lengths-stop s (drop i ns) (drop (2 * i) ans) none, add-zero i, take-append-drop (2 * i) ans)
+
+  pub processed-end : (s : State) (xs out : List Float) (w : ℕ)
+      → after i (take w out) (take (2 * i) ans) (processedFrom s xs (drop i ns) (drop w out) (drop (2 * i) ans)) ≡ ran i out ans
+  processed-end s xs out w = rw (processed-stop s xs (drop i ns) (drop w out) (drop (2 * i) ans) none, add-zero i, take-append-drop w out, take-append-drop (2 * i) ans)
+
+-- ---- one call in the code: it lends the input up to e and the output from p on, and gives the answer a, the state st, and ys in the place of that
+-- part; then the answer is told
+module _ (p : Place) (n e : ℕ) (xs out : List Float) (at-p : Within p xs out) (is : e ≡ p .read + min n (length xs - p .read)) (fits : e ≤ length xs)
+    (a : Reply ℕ) (st : Resampler) (ys : List Float)
+    (gave : outcome a (stateOf st) ys ≡ processed (stateOf (p .state)) (take (e - p .read) (drop (p .read) xs)) (take (length out - p .written) (drop (p .written) out))) where
+  abbrev out-after : List Float
+  out-after = take (p .written) out ++ (ys ++ drop (length out - p .written) (drop (p .written) out))
+
+  abbrev place-after : ℕ → Place
+  place-after count = record { state = st; read = e; written = p .written + count }
+
+  is-outcome : outcome a (stateOf st) ys ≡ outcomeAt p n xs out
+  is-outcome = rw (← part-next xs (p .read) n e is, ← rest-is (p .written) out) gave
+
+  out-is : out-after ≡ take (p .written) out ++ ys
+  out-is = rest-put (p .written) out ys (at-p .written)
+
+  pub call-written : p .written + countIn a ≤ length out-after
+  call-written =
+      let k : countIn a ≤ length ys = rw (← gave) at (count-within (stateOf (p .state)) (take (e - p .read) (drop (p .read) xs)) (take (length out - p .written) (drop (p .written) out))) in
+      let w : length (take (p .written) out) ≡ p .written = length-take-le (p .written) out (at-p .written) in
+      rw (out-is, length-append, w) (omega arith)
+
+  pub call-within : Sound st → (count : ℕ) → count ≡ countIn a → Within (place-after count) xs out-after
+  call-within s count e = record { sound = s; read = fits; written = rw e call-written }
+
+  module _ (t : Told) (number : t .number ≡ numberIn a) (count : t .count ≡ countIn a) (before behind ans′ : List ℕ)
+      (told-is : ans′ ≡ before ++ (t .number ∷ t .count ∷ behind)) where
+    pub call-steps : Stepped p (place-after (t .count)) n xs out out-after before behind ans′
+    call-steps =
+        record {
+          state = ap (λ (o : Outcome). o .state) is-outcome;
+          left = part-left xs (p .read) n e is;
+          written = rw (← is-outcome, count);
+          output = rw (← is-outcome) out-is;
+          answers = rw (← is-outcome, ← number, ← count) told-is;
+        }
+
+-- ---- the rates, as `new` judges them
+module _ (src dst : ℕ) (s : State) where
+  pub rates-accepted : made (given tt) s ≡ newOf src dst → (ratesRefused src dst ≡ false) × (s ≡ fresh src dst)
+  unfolding newOf
+  rates-accepted e = accepted-only (λ (m : Made). m .answer) (λ (m : Made). m .state) _ _ _ (ratesRefused src dst) refl refl e
+
+  pub rates-refused : (k : ℕ) → made (refused k) s ≡ newOf src dst → ratesRefused src dst ≡ true
+  unfolding newOf
+  rates-refused k e = refused-only (λ (m : Made). m .answer) k _ _ _ (ratesRefused src dst) refl refl e

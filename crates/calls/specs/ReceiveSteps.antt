@@ -1,0 +1,59 @@
+-- One call of the receiver between two places of a list of calls, as the code holds them. Assumes nothing.
+use Prim.Native.Nat.{ℕ, min, _+_, _≤_}
+use mathlib.Core.Path.{_≡_}
+use mathlib.Core.Bool.{Bool}
+use mathlib.Core.List.{List, [], _∷_, _++_, map}
+use lib.ListN.{length, take, drop}
+use lib.Ieee.{Float}
+use Rattle.modem.specs.RxHeld.{receiverOf, RxSound}
+use Rattle.modem.specs.declared.rx.Rx.{Rx}
+use Rattle.calls.specs.Receive.{Called, called, relieved, bit, toldCall}
+use Rattle.calls.specs.declared.answers.Heard.{Heard}
+use Rattle.calls.specs.declared.receive.Call.{Call}
+use Rattle.calls.specs.declared.receive.Place.{Place}
+
+-- an event or none as a byte
+abbrev pub bitIn : List Bool → ℕ
+bitIn [] = 0
+bitIn (e ∷ es) = bit e
+
+-- events taken into a whole buffer: how many, the buffer, and the receiver afterwards
+pub record Takes (r : Rx) (buf : List ℕ) (n : ℕ) (s : Rx) (buf′ : List ℕ) : Type 0 where
+  pub count : n ≡ length (take (length buf) (receiverOf r .noted))
+  pub buffer : buf′ ≡ map bit (take (length buf) (receiverOf r .noted)) ++ drop n buf
+  pub state : receiverOf s ≡ relieved 0 (length buf) (receiverOf r)
+  pub sound : RxSound s
+
+-- the five numbers that the code holds
+abbrev pub heardOf : Heard → List ℕ
+heardOf h = h .number ∷ h .bytes ∷ h .events ∷ h .carrier ∷ h .errors ∷ []
+
+-- a call c of the definitions was run: its answer, the receiver afterwards, and two buffers, with all that they have room for
+pub record Calls (c : Called) (bs es : List ℕ) (h : Heard) (s : Rx) (bs′ es′ : List ℕ) : Type 0 where
+  pub told : heardOf h ≡ toldCall c
+  pub state : receiverOf s ≡ c .state
+  pub bytes : bs′ ≡ c .bytes ++ drop (length (c .bytes)) bs
+  pub events : es′ ≡ map bit (c .events) ++ drop (length (c .events)) es
+  pub sound : RxSound s
+
+-- a place within the samples, the bytes and the events, with a sound state
+pub record Within (p : Place) (xs : List Float) (bs es : List ℕ) : Type 0 where
+  pub sound : RxSound (p .state)
+  pub read : p .read ≤ length xs
+  pub bytes : p .bytes ≤ length bs
+  pub events : p .events ≤ length es
+
+-- what the call at p gives
+abbrev pub callAt : Place → Call → List Float → List ℕ → List ℕ → Called
+callAt p k xs bs es =
+    called (receiverOf (p .state)) (take (k .samples) (drop (p .read) xs)) (min (k .bytes) (length (drop (p .bytes) bs))) (min (k .events) (length (drop (p .events) es)))
+
+-- a call leads from p to q, and from bs and es to bs′ and es′, and to ans′, where the answers were before, five numbers, and behind
+pub record Stepped (p q : Place) (k : Call) (xs : List Float) (bs bs′ es es′ before behind ans′ : List ℕ) : Type 0 where
+  pub state : receiverOf (q .state) ≡ callAt p k xs bs es .state
+  pub left : drop (q .read) xs ≡ drop (k .samples) (drop (p .read) xs)
+  pub bytes-at : q .bytes ≡ p .bytes + length (callAt p k xs bs es .bytes)
+  pub events-at : q .events ≡ p .events + length (callAt p k xs bs es .events)
+  pub bytes : bs′ ≡ take (p .bytes) bs ++ (callAt p k xs bs es .bytes ++ drop (length (callAt p k xs bs es .bytes)) (drop (p .bytes) bs))
+  pub events : es′ ≡ take (p .events) es ++ (map bit (callAt p k xs bs es .events) ++ drop (length (callAt p k xs bs es .events)) (drop (p .events) es))
+  pub answers : ans′ ≡ before ++ (toldCall (callAt p k xs bs es) ++ behind)

@@ -1,0 +1,22 @@
+-- Event, timing and bit are each what their function ensures.
+use Rattle.demodulation.specs.Demod.{finished}
+use borrow.Author.Needs.{needs}
+use Rattle.demodulation.proofs.demod.Core.finish.Statement.{statement}
+use Rattle.demodulation.proofs.demod.Core.finish.Tie as tie
+
+event-of-requires : tie.Need-event-of-requires
+event-of-requires c κs = search needs
+
+tick-requires : tie.Need-tick-requires
+tick-requires c κs = search needs
+
+slice-requires : tie.Need-slice-requires
+slice-requires c κs = search needs
+
+returns : tie.Need-returns
+unfolding finished
+returns c =
+    rw (c .before .slice .ensures, c .before .before .before .tick .ensures, c .before .before .before .before .event-of .ensures)
+
+pub finish-spec : {M : Type 1} → statement M
+finish-spec = tie.close (tie.spec event-of-requires tick-requires slice-requires returns)

@@ -1,0 +1,114 @@
+-- In the order of the code: each part is what its function ensures. `Core::feed` says whether the rings are filled.
+use mathlib.Core.Path.{_≡_, sym}
+use mathlib.Core.Bool.{true, false}
+use native.Mathlib.Omega.{arith}
+use borrow.Author.Needs.{needs}
+use borrow.Author.Tests.{not-true, not-false}
+use lib.Ieee.{Float}
+use Rattle.detection.specs.Carrier.{updated}
+use Rattle.demodulation.specs.Demod.{magnitudeOf, decisionOf, multiplied, latched, fedCore, finished, stepWith, stepOf}
+use Rattle.demodulation.specs.DemodLaws.{step-waits, step-decodes}
+use Rattle.detection.specs.declared.carrier.CarrierDetector.{CarrierDetector}
+use Rattle.demodulation.specs.declared.demod.Core.{Core}
+use Rattle.demodulation.specs.declared.demod.CoreStep.{CoreStep}
+use Rattle.demodulation.specs.declared.demod.Decision.{Decision}
+use Rattle.demodulation.specs.declared.demod.Demodulator.{Demodulator}
+use Rattle.demodulation.specs.declared.demod.Latch.{Latch}
+use Rattle.demodulation.specs.declared.demod.Rings.{Rings}
+use Rattle.framing.specs.declared.frame.Heard.the-variants.{Waiting}
+use Rattle.demodulation.specs.declared.demod.Event.the-variants.{Nothing}
+use Rattle.demodulation.specs.SummingLaws.{summed-kept, tone-end}
+use Rattle.demodulation.proofs.demod.Core.step.Statement.{statement}
+use Rattle.demodulation.proofs.demod.Core.step.Tie as tie
+
+module _ (d : Demodulator) (s : Float) (r : Rings) (k : Core) where
+  waits : r ≡ multiplied (d .rings) (d .core .corr) s → k ≡ fedCore (d .core) s → k .corr .filled ≡ false
+      → stepWith r (record { core = k; heard = Waiting; event = Nothing }) ≡ stepOf d s
+  waits er ek e = rw (er, ek) (sym (step-waits d s (rw ek at e)))
+
+  decodes : (m n : Float) (o : Decision) (carrier : CarrierDetector) (latch : Latch) (x : CoreStep)
+      → r ≡ multiplied (d .rings) (d .core .corr) s
+      → k ≡ fedCore (d .core) s
+      → k .corr .filled ≡ true
+      → m ≡ magnitudeOf (r .«mark_i») (r .«mark_q»)
+      → n ≡ magnitudeOf (r .«space_i») (r .«space_q»)
+      → o ≡ decisionOf m n
+      → carrier ≡ updated (k .carrier) (o .energy)
+      → latch ≡ latched (k .latch) (k .«gate_open») (carrier .detected)
+      → x ≡ finished k carrier latch (o .soft)
+      → stepWith r x ≡ stepOf d s
+  decodes m n o carrier latch x er ek e em en eo ec el ex = rw (ex, el, ec, eo, en, em, ek, er) (sym (step-decodes d s (rw ek at e)))
+
+multiply-requires : tie.Need-multiply-requires
+multiply-requires c κs = search needs
+
+multiply-requires-2 : tie.Need-multiply-requires-2
+multiply-requires-2 c κs = search needs
+
+feed-requires : tie.Need-feed-requires
+feed-requires c κs = search needs
+
+returns : tie.Need-returns
+returns c =
+    let f = c .before .before in
+    let n = f .before in
+    let m = n .before .before .before in
+    waits _ _ _ _ (rw (n .multiply2 .ensures .1, n .multiply2 .ensures .0, m .multiply .ensures .1, m .multiply .ensures .0)) (f .feed .ensures)
+    (not-true (f .feed .result .corr .filled) (c .if1 .taken))
+
+sums-on-requires : tie.Need-sums-on-requires
+sums-on-requires c κs =
+    let n = c .before .before .before .before .before .before .before in
+    let m = n .before .before .before in
+    let a = m .before .before .before .before in (
+      omega (arith, a .pre .0),
+      omega arith,
+      summed-kept (a .args .self .corr) (a .args .s) _ _ _ (a .pre .1)
+          (rw (n .multiply2 .ensures .1, n .multiply2 .ensures .0, m .multiply .ensures .1, m .multiply .ensures .0)),
+    )
+
+roots-requires : tie.Need-roots-requires
+roots-requires c κs = search needs
+
+decide-requires : tie.Need-decide-requires
+decide-requires c κs = search needs
+
+update-requires : tie.Need-update-requires
+update-requires c κs = search needs
+
+see-requires : tie.Need-see-requires
+see-requires c κs = search needs
+
+finish-requires : tie.Need-finish-requires
+finish-requires c κs = search needs
+
+returns-2 : tie.Need-returns-2
+returns-2 c =
+    let u = c .before .before in
+    let o = u .before .before .before in
+    let y = o .before in
+    let t = y .before .sums-on .ensures in
+    let i = y .before .before .before .before .before .before in
+    let f = i .before .before in
+    let n = f .before in
+    let m = n .before .before .before in
+    decodes _ _ _ _ _ _ _ _ _ _ (rw (n .multiply2 .ensures .1, n .multiply2 .ensures .0, m .multiply .ensures .1, m .multiply .ensures .0)) (f .feed .ensures)
+    (not-false (f .feed .result .corr .filled) (i .if1 .left)) (tone-end _ _ _ _ _ (t .mark-i) (t .mark-q) (y .roots .ensures .0))
+    (tone-end _ _ _ _ _ (t .space-i) (t .space-q) (y .roots .ensures .1)) (o .decide .ensures) (u .update .ensures)
+    (c .before .see .ensures) (c .finish .ensures)
+
+pub step-spec : {M : Type 1} → statement M
+step-spec =
+    tie.close
+    (tie.spec
+    multiply-requires
+    multiply-requires-2
+    feed-requires
+    returns
+    sums-on-requires
+    roots-requires
+    decide-requires
+    update-requires
+    see-requires
+    finish-requires
+    returns-2)
