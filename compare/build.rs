@@ -11,7 +11,7 @@ fn main() {
     for (cfg, feature) in [
         ("receiver", "CARGO_FEATURE_PORT_RECEIVER"),
         ("state", "CARGO_FEATURE_PORT_STATE"),
-        ("sender", "CARGO_FEATURE_PORT_SENDER"),
+        ("sender", "CARGO_FEATURE_PORT_SEND"),
         ("board", "CARGO_FEATURE_PORT_BOARD"),
     ] {
         println!("cargo:rustc-check-cfg=cfg({cfg})");

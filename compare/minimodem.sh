@@ -1,14 +1,16 @@
 #!/bin/sh
-# Has the port hear another implementation of Bell 103: minimodem renders a
-# text, sox resamples it, and the program `replay` hears it. Every byte must be
-# there, and nothing else; and the original must answer each write alike.
-# Needs the Debian packages minimodem and sox, cargo, and `rt check replay` run
-# before. Takes about a minute; minimodem sends its idle carrier in real time.
+# Has the port hear another implementation of Bell 103, and be heard by it.
+# minimodem renders a text, sox resamples it, and the program `replay` hears it.
+# Every byte must be there, and nothing else; and the original must answer each
+# write alike. Then the sender sends the text at each rate, and minimodem must
+# hear it: the port's sender with FEATURES=port-send, else the original's.
+# Needs the Debian packages minimodem, sox and xxd, cargo, and `rt check replay`
+# run before. Takes about a minute; minimodem sends its idle carrier in real time.
 cd "$(dirname "$0")" || exit 2
 replay=../target/bin/replay
 folder=$(mktemp -d) || exit 2
 trap 'rm -r "$folder"' EXIT
-cargo build --release --quiet || exit 2
+cargo build --release --quiet --features "$FEATURES" || exit 2
 printf 'CQ CQ 0123456789 the quick brown fox jumps over the lazy dog\n01010D000700C0000005019C88\n' >"$folder/sent"
 failed=0
 
@@ -35,6 +37,18 @@ hear() {
     fi
 }
 
+# said MARK SPACE RATE ROLE
+said() {
+    target/release/compare say "$folder/sent" "$3" "$4" >"$folder/said.wav" || exit 2
+    minimodem --rx --quiet --mark "$1" --space "$2" --file "$folder/said.wav" 300 >"$folder/bytes"
+    if cmp -s "$folder/sent" "$folder/bytes"; then
+        echo "$1/$2, sent at $3: all $(wc -c <"$folder/sent") bytes heard by minimodem"
+    else
+        echo "$1/$2, sent at $3: NOT AS SENT"
+        failed=$((failed + 1))
+    fi
+}
+
 # Role 1 answers, and hears the tones of the end that dials; role 0 the others.
 for tones in "1270 1070 1" "2225 2025 0"; do
     set -- $tones
@@ -46,6 +60,9 @@ for tones in "1270 1070 1" "2225 2025 0"; do
     for rate in 8000 11025 16000 22050 32000 44100; do
         sox -V1 "$folder/48000.wav" -r $rate "$folder/other.wav" || exit 2
         hear "$folder/other.wav" $rate "$3" "$1/$2, rendered at 48000"
+    done
+    for rate in 8000 8001 9999 11025 16000 22050 32000 44100 47999 48000; do
+        said "$1" "$2" $rate $((1 - $3))
     done
 done
 echo "$failed not as sent"

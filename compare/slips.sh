@@ -7,7 +7,7 @@ cd "$(dirname "$0")" || exit 2
 run="run --release --quiet --target-dir target/slips -- compare --quick"
 if [ "$1" = --vectors ]; then
     vectors=1
-    run="test --release --quiet --target-dir target/slips -- recorded_vectors"
+    run="test --release --quiet --target-dir target/slips -- vectors_replay"
     shift
 fi
 all=$(sed -n 's/^ *name: "\(.*\)",$/\1/p' again/slips.rs)

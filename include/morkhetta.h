@@ -107,6 +107,47 @@ size_t morkhetta_receive(
     uint64_t *answers, size_t answers_len
 );
 
+/* A fresh sender at the device rate `rate` and for the role 0 (the end that
+ * dials) or any other number (the end that picks up), and the calls of the
+ * script, two numbers for each, its kind and n (a last one that makes no whole
+ * call is passed over):
+ *
+ *   0  write of the next n bytes of the data, or of what is left of them
+ *   1  write_idle_mark of n bit periods
+ *   2  set_amplitude to the float whose bits are n modulo 2^32
+ *   3  read into the next n places of the samples, or what is left of them
+ *   any other number: samples_for_bits of n
+ *
+ * Each call is answered by three numbers:
+ *
+ *   the number of the refusal, 0 where the call is accepted:
+ *      3  a read of more than 1,024 samples
+ *      6  an amplitude not in 0 to 1
+ *      7  samples_for_bits of more than 1,048,576
+ *     31  a read that would pass 4,294,967,296 samples for this sender
+ *     33  more than 4,096 bits would wait; a byte has ten
+ *   the value: of a read the number of places filled, of samples_for_bits the
+ *     number of samples; 0 of other calls and of a refused one
+ *   1 where bits wait after the call, else 0
+ *
+ * A refused call changes nothing. The bytes of a refused write and the places of
+ * a refused read are passed over, the places as they were. An accepted read fills
+ * its places whole.
+ *
+ * Returns the number of calls run: those of the script, as long as the answers
+ * have room for three more numbers. A rate outside 8,000 to 48,000 runs none: the
+ * function returns 0 and writes nothing. Samples and answers behind what was
+ * written are as they were.
+ */
+size_t morkhetta_send(
+    uint32_t rate,
+    uint32_t role,
+    const uint8_t *data, size_t data_len,
+    const uint64_t *script, size_t script_len,
+    float *samples, size_t samples_len,
+    uint64_t *answers, size_t answers_len
+);
+
 /* The state of a receiver behind all calls of a script, for comparisons bit for
  * bit: its 909 numbers at the front of `state`, the rest of which is as it was.
  * The calls are those of morkhetta_receive, with room for 512 bytes and 64

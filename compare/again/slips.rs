@@ -5,7 +5,7 @@
 
 use crate::copy::Slip;
 
-pub const SLIPS: [Slip; 27] = [
+pub const SLIPS: [Slip; 33] = [
     Slip {
         name: "residue-wrapped",
         file: "rx.rs",
@@ -167,5 +167,41 @@ pub const SLIPS: [Slip; 27] = [
         file: "tx.rs",
         old: "        self.nco\n            .set_freq(",
         new: "        self.nco.reset();\n        self.nco\n            .set_freq(",
+    },
+    Slip {
+        name: "surplus-dropped",
+        file: "tx.rs",
+        old: "                    self.pending.push_back(v);\n",
+        new: "",
+    },
+    Slip {
+        name: "idle-is-space",
+        file: "tx.rs",
+        old: "self.bits.pop_front().unwrap_or(true);",
+        new: "self.bits.pop_front().unwrap_or(false);",
+    },
+    Slip {
+        name: "retuned-before-the-sample",
+        file: "tx.rs",
+        old: "                self.scratch[i] = self.nco.next();\n                self.sym_pos += step;\n                if self.sym_pos >= 1.0 {\n                    self.sym_pos -= 1.0;\n                    self.next_symbol();\n                }\n",
+        new: "                self.sym_pos += step;\n                if self.sym_pos >= 1.0 {\n                    self.sym_pos -= 1.0;\n                    self.next_symbol();\n                }\n                self.scratch[i] = self.nco.next();\n",
+    },
+    Slip {
+        name: "symbol-clock-begins-anew",
+        file: "tx.rs",
+        old: "                    self.sym_pos -= 1.0;\n",
+        new: "                    self.sym_pos = 0.0;\n",
+    },
+    Slip {
+        name: "one-sample-fewer-a-pass",
+        file: "tx.rs",
+        old: "self.cfg.sample_rate as f64) as usize + 1;",
+        new: "self.cfg.sample_rate as f64) as usize;",
+    },
+    Slip {
+        name: "samples-for-bits-at-8000",
+        file: "tx.rs",
+        old: "n as f64 * self.cfg.sample_rate as f64 / BAUD",
+        new: "n as f64 * DSP_RATE / BAUD",
     },
 ];

@@ -5,11 +5,16 @@
 use crate::cases::{rate_of, Cut};
 use crate::judge;
 use crate::layout::*;
+use crate::lines::line;
 use crate::port;
 use crate::random::Random;
 use crate::signal::{Modulation, Tape, Tones, Wave};
 
 const UNTOUCHED: u64 = 777_777;
+
+/// Where samples times writes are fewer, the board is compared after every
+/// write, each time from a fresh one; else after each write that ends a line.
+const EVERY_WRITE: usize = 4_000_000;
 
 pub struct BoardCase {
     rate: u32,
@@ -41,6 +46,8 @@ pub struct Seen {
     pub refused: usize,
     pub bytes: u64,
     pub stops: usize,
+    /// Cases that were compared after every write.
+    pub every: usize,
 }
 
 impl BoardCase {
@@ -89,19 +96,23 @@ impl BoardCase {
         Listened { writes, answers, shown }
     }
 
-    /// Runs both sides on the whole list, and on the list up to each write that
-    /// ended a line, so that what is shown after it is compared too.
-    pub fn differs(&self, seen: &mut Seen) -> Option<String> {
+    /// Runs both sides on the whole list, and on the list up to every write, or
+    /// up to each that ended a line (`EVERY_WRITE`), so that what is shown after
+    /// it is compared too.
+    pub fn seen(&self) -> Result<Seen, String> {
+        let mut seen = Seen::default();
         let whole = self.run(judge::listen, self.lengths.len());
         let told = whole.answers.chunks_exact(JUDGED).take(whole.writes);
-        let mut stops: Vec<usize> =
-            told.clone().enumerate().filter(|(_, a)| a[2] > 0).map(|(i, _)| i + 1).collect();
+        let every = self.samples.len() * whole.writes < EVERY_WRITE;
+        let ends = told.clone().enumerate().filter(|(_, a)| every || a[2] > 0);
+        let mut stops: Vec<usize> = ends.map(|(i, _)| i + 1).collect();
         stops.extend([0, 1.min(self.lengths.len()), self.lengths.len()]);
+        seen.every += usize::from(every);
         for writes in stops {
             let (a, b) = (self.run(judge::listen, writes), self.run(port::listen, writes));
             seen.stops += 1;
             if a != b {
-                return Some(format!(
+                return Err(format!(
                     "rate {}, station {}, role {}, {writes} writes: {} from the original, {} from the port",
                     self.rate, self.station, self.role, words(&a), words(&b)
                 ));
@@ -111,14 +122,29 @@ impl BoardCase {
         seen.refused += told.clone().filter(|a| a[0] != 0).count();
         seen.bytes += told.map(|a| a[1]).sum::<u64>();
         if whole.writes > 0 && self.shown >= SHOWN {
-            seen.answers.iter_mut().zip(&whole.shown[3..]).for_each(|(sum, n)| *sum += n);
+            seen.answers.copy_from_slice(&whole.shown[3..SHOWN]);
         }
-        None
+        Ok(seen)
+    }
+}
+
+impl Seen {
+    pub fn sum(cases: &[Seen]) -> Seen {
+        let mut all = Seen::default();
+        for case in cases {
+            all.answers.iter_mut().zip(&case.answers).for_each(|(sum, n)| *sum += n);
+            all.writes += case.writes;
+            all.refused += case.refused;
+            all.bytes += case.bytes;
+            all.stops += case.stops;
+            all.every += case.every;
+        }
+        all
     }
 }
 
 fn words(l: &Listened) -> String {
-    let last = l.answers.chunks_exact(JUDGED).take(l.writes).last();
+    let last = l.answers.chunks_exact(JUDGED).take(l.writes).next_back();
     format!("{} writes, the last one {last:?}, shown {:?}", l.writes, l.shown)
 }
 
@@ -143,7 +169,7 @@ fn recording(rate: u32, role: u32, station: u16, random: &mut Random) -> Vec<f32
     tape.bytes(how, b"\n");
     let mut newest = random.whole(0, 20_000_000);
     for _ in 0..random.whole(2, 6) {
-        let line = line(random, station, &mut newest);
+        let line = line(random, station, &mut newest, 12);
         tape.bytes(how, &line);
         tape.idle(how, random.whole(0, 20) as usize);
     }
@@ -156,49 +182,4 @@ fn recording(rate: u32, role: u32, station: u16, random: &mut Random) -> Vec<f32
         tape.cut(random.between(0.0, seconds), random.between(0.01, 0.8));
     }
     tape.finish()
-}
-
-/// A line's bytes with its end: most are good, the others fail a check each.
-fn line(random: &mut Random, station: u16, newest: &mut u32) -> Vec<u8> {
-    *newest = match random.whole(0, 3) {
-        0 => *newest,
-        1 => newest.saturating_sub(random.whole(0, 40)),
-        _ => newest.saturating_add(random.whole(0, 40)),
-    };
-    let later = if random.once_in(2) { 0 } else { random.whole(0, 19) as usize };
-    let version = if later == 0 && random.once_in(2) { 1 } else { random.whole(2, 255) as u8 };
-    let reader = if random.once_in(6) { random.whole(1, u32::from(version)) as u8 } else { 1 };
-    let station = if random.once_in(10) { station ^ 1 } else { station };
-    let age = random.pick(&[0, 1, 5, 5, 30, 30, 254, 255]);
-    let level = random.pick(&[-32_768, -1, -1, 0, 1, 412, 412, 412, -250, 32_767, -32_767]) as i16;
-    let stamp = if random.once_in(12) { random.pick(&[0, u32::MAX]) } else { *newest };
-    let mut frame = vec![version, reader, 13 + later as u8];
-    frame.extend(station.to_be_bytes());
-    frame.extend(stamp.to_be_bytes());
-    frame.push(age);
-    frame.extend(level.to_be_bytes());
-    frame.extend(random.bytes(later));
-    let sum = frame.iter().fold(0u8, |sum, b| sum.wrapping_add(*b));
-    frame.push(sum.wrapping_neg());
-    match random.whole(0, 14) {
-        // The wrong length, sum, version or reader, the sum made right again.
-        0 => frame[2] ^= 1,
-        1 => frame[12] = frame[12].wrapping_add(1),
-        2 => {
-            let last = frame.len() - 1;
-            frame[last] = frame[last].wrapping_add(frame[1]);
-            frame[1] = 0;
-        }
-        _ => {}
-    }
-    let mut text: Vec<u8> = frame.iter().flat_map(|b| format!("{b:02X}").into_bytes()).collect();
-    match random.whole(0, 14) {
-        0 => text.make_ascii_lowercase(),
-        1 => text.truncate(random.whole(0, text.len() as u32) as usize),
-        2 => text.extend(random.bytes(40).iter().map(|b| if *b == b'\n' { b'0' } else { *b })),
-        3 => text.push(b'\r'),
-        _ => {}
-    }
-    text.push(b'\n');
-    text
 }

@@ -237,69 +237,100 @@ fn samples_of_any_kind(total: usize, random: &mut Random) -> Vec<f64> {
 pub struct SenderCase {
     pub rate: u32,
     pub role: u32,
-    pub script: Vec<u32>,
     pub data: Vec<u8>,
-    /// Places of the output.
+    pub script: Vec<u64>,
+    /// Places of the samples.
     pub room: usize,
+    /// Places of the answers.
+    pub answers: usize,
 }
 
 pub struct Sent {
     pub steps: usize,
-    pub output: Vec<f32>,
+    pub samples: Vec<f32>,
     pub answers: Vec<u64>,
 }
 
 impl SenderCase {
+    /// With room for every answer.
+    pub fn whole(rate: u32, role: u32, data: Vec<u8>, script: Vec<u64>, room: usize) -> SenderCase {
+        let answers = script.len() / STEP * SENT;
+        SenderCase { rate, role, data, script, room, answers }
+    }
+
     pub fn random(index: usize, random: &mut Random) -> SenderCase {
         let rate = rate_of(index, random);
+        let role = random.whole(ORIGINATE, ANSWER);
         let cut = Cut::of(index);
-        let mut script = vec![AMPLITUDE, first_amplitude(random).to_bits()];
+        let mut script = vec![AMPLITUDE, bits_of(first_amplitude(random))];
         let (mut bytes, mut samples) = (0, 0);
-        // Seldom enough that the queue runs empty at times and full at others.
+        // Seldom or little enough that the queue runs empty at times, and full at others.
+        let most_bytes = random.pick(&[1, 3, 20]);
         let steps_a_write = match cut {
             Cut::Even(1) => 1_500,
             Cut::Even(7) => 300,
             _ => 40,
         };
-        while samples < rate / 2 {
-            let [kind, number] = match random.whole(0, steps_a_write) {
-                0..=1 => [WRITE, random.whole(0, 20)],
-                2 => [IDLE_MARK, random.whole(0, 60)],
+        while samples < u64::from(rate) / 2 {
+            let [kind, n] = match random.whole(0, steps_a_write) {
+                0..=1 => [WRITE, number(random, 0, most_bytes)],
+                2 => [IDLE_MARK, number(random, 0, 3 * most_bytes)],
                 3 => refusable_step(random),
-                4 => [PENDING, 0],
-                5 => [SAMPLES_FOR_BITS, random.whole(0, 3_000)],
-                _ => [READ, cut.next(random, 1_024)],
+                4 => [random.pick(&[SAMPLES_FOR_BITS, 5, 1 << 32, u64::MAX]), 3],
+                5 => [SAMPLES_FOR_BITS, number(random, 0, 3_000)],
+                _ => [READ, u64::from(cut.next(random, 1_024))],
             };
-            bytes += if kind == WRITE { number as usize } else { 0 };
-            samples += if kind == READ { number } else { 0 };
-            script.extend([kind, number]);
+            bytes += if kind == WRITE { n } else { 0 };
+            samples += if kind == READ { n } else { 0 };
+            script.extend([kind, n]);
         }
-        SenderCase {
-            rate,
-            role: random.whole(ORIGINATE, ANSWER),
-            data: random.bytes(bytes),
-            room: samples as usize,
-            script,
+        // Steps that take all that is left, and half a step.
+        let (data, room) = (random.bytes(bytes as usize + 30), samples as usize + 30);
+        if random.once_in(3) {
+            script.extend([READ, u64::MAX, WRITE, u64::MAX, READ, 1]);
         }
+        if random.once_in(4) {
+            script.push(READ);
+        }
+        // Too few bytes, places or answers now and then.
+        let data = if random.once_in(8) { data[..data.len() / 2].to_vec() } else { data };
+        let room = if random.once_in(8) { room * 2 / 3 } else { room };
+        let case = SenderCase::whole(rate, role, data, script, room);
+        let answers = match random.whole(0, 9) {
+            0 => case.answers.saturating_sub(1),
+            1 => case.answers / 2,
+            2 => case.answers + 2,
+            _ => case.answers,
+        };
+        SenderCase { answers, ..case }
     }
 
     pub fn run(&self, side: &Side) -> Option<Sent> {
         let send = side.send?;
         let mut sent = Sent {
             steps: 0,
-            output: vec![UNTOUCHED as f32; self.room],
-            answers: vec![UNTOUCHED_ANSWER; self.script.len() / STEP * TOLD],
+            samples: vec![UNTOUCHED as f32; self.room],
+            answers: vec![UNTOUCHED_ANSWER; self.answers],
         };
         sent.steps = send(
             self.rate,
             self.role,
-            &self.script,
             &self.data,
-            &mut sent.output,
+            &self.script,
+            &mut sent.samples,
             &mut sent.answers,
         );
         Some(sent)
     }
+}
+
+fn number(random: &mut Random, low: u32, high: u32) -> u64 {
+    u64::from(random.whole(low, high))
+}
+
+/// An amplitude as the number of a step.
+pub fn bits_of(amplitude: f32) -> u64 {
+    u64::from(amplitude.to_bits())
 }
 
 fn first_amplitude(random: &mut Random) -> f32 {
@@ -308,18 +339,22 @@ fn first_amplitude(random: &mut Random) -> f32 {
 }
 
 /// A step at or past one of the sender's limits.
-fn refusable_step(random: &mut Random) -> [u32; 2] {
-    let amplitude = |a: f32| [AMPLITUDE, a.to_bits()];
-    match random.whole(0, 9) {
+fn refusable_step(random: &mut Random) -> [u64; STEP] {
+    let amplitude = |a: f32| [AMPLITUDE, bits_of(a)];
+    match random.whole(0, 13) {
         0 => amplitude(1.0000001),
         1 => amplitude(f32::NAN),
         2 => amplitude(-1e-9),
         3 => amplitude(-0.0),
         4 => amplitude(random.between(0.0, 1.0) as f32),
-        5 => [SAMPLES_FOR_BITS, 1_048_576 + random.whole(0, 1)],
-        6 => [IDLE_MARK, random.whole(4_000, 4_200)],
-        7 => [IDLE_MARK, u32::MAX],
-        8 => [WRITE, random.whole(350, 430)],
-        _ => [READ, random.whole(1_020, 1_030)],
+        5 => amplitude(random.pick(&[f32::INFINITY, f32::NEG_INFINITY, 1e-45, 1.0])),
+        // Only the lowest 32 bits count.
+        6 => [AMPLITUDE, bits_of(0.25) + (7 << 32)],
+        7 => [SAMPLES_FOR_BITS, 1_048_576 + number(random, 0, 1)],
+        8 => [SAMPLES_FOR_BITS, u64::MAX],
+        9 => [IDLE_MARK, number(random, 4_000, 4_200)],
+        10 => [IDLE_MARK, random.pick(&[u64::MAX, 1 << 32, u64::MAX - 4_000])],
+        11..=12 => [WRITE, number(random, 350, 430)],
+        _ => [READ, number(random, 1_020, 1_030)],
     }
 }

@@ -4,15 +4,16 @@ use std::collections::BTreeMap;
 use std::process::ExitCode;
 use std::time::Instant;
 
-use crate::cases::{Heard, ReceiverCase, ResamplerCase, SenderCase, RATES};
+use crate::cases::{bits_of, Heard, ReceiverCase, ResamplerCase, SenderCase, Sent, RATES};
 use crate::difference::{of_heard, of_resampled, of_sent};
 use crate::layout::*;
 use crate::random::Random;
 use crate::scenes::KINDS;
 use crate::shrink::{shrink, Case};
 use crate::side::{ORIGINAL, PORT};
-use crate::tally::Tally;
+use crate::tally::{SentTally, Tally};
 use crate::text::Text;
+use crate::workers;
 
 pub struct Options {
     /// Receiver cases; twice as many of the resampler, half of the sender.
@@ -44,9 +45,9 @@ impl Options {
 
 /// A difference, and a way to a smaller case that shows one. The comparison ends
 /// with the first.
-struct Found {
-    words: String,
-    smaller: Option<Box<dyn FnOnce() -> String>>,
+pub struct Found {
+    pub words: String,
+    smaller: Option<Box<dyn FnOnce() -> String + Send>>,
 }
 
 type Part = fn(&Options) -> Result<String, Found>;
@@ -115,8 +116,8 @@ fn refused_rates(_: &Options) -> Result<String, Found> {
         for role in [ORIGINATE, ANSWER] {
             let (samples, script) = (vec![0.5; 20], vec![10, 1, 1, 10, 1, 1]);
             check_receiver(&ReceiverCase { rate: src, role, samples, script }, "")?;
-            let (script, data, room) = (vec![READ, 10, PENDING, 0], vec![], 10);
-            check_sender(&SenderCase { rate: src, role, script, data, room }, "")?;
+            let script = vec![WRITE, 1, READ, 10, SAMPLES_FOR_BITS, 3];
+            check_sender(&SenderCase::whole(src, role, vec![65], script, 10), "")?;
         }
     }
     Ok(format!("{} rates, alone and in pairs, 0 differences", rates.len()))
@@ -169,11 +170,11 @@ fn check_lengths(src: u32, dst: u32, lengths: &[u32]) -> Result<(), Found> {
 
 fn resampler_cases(options: &Options) -> Result<String, Found> {
     let cases = options.cases * 2;
-    for index in 0..cases {
+    workers::all(0..cases, |index| {
         let mut random = Random::of_case(options.seed ^ 0x5253, index as u64);
         let case = ResamplerCase::random(index, &mut random);
-        check_resampler(&case, &format!("case {index} of seed {}: ", options.seed))?;
-    }
+        check_resampler(&case, &format!("case {index} of seed {}: ", options.seed))
+    })?;
     Ok(format!("{cases} cases, 0 differences"))
 }
 
@@ -182,67 +183,90 @@ fn sender_cases(options: &Options) -> Result<String, Found> {
         return Ok("not compared, as the port exports none".into());
     }
     let cases = options.cases / 2;
-    for index in 0..cases {
+    let tallies = workers::all(0..cases, |index| {
         let mut random = Random::of_case(options.seed ^ 0x5458, index as u64);
         let case = SenderCase::random(index, &mut random);
-        check_sender(&case, &format!("case {index} of seed {}: ", options.seed))?;
-    }
+        let sent = check_sender(&case, &format!("case {index} of seed {}: ", options.seed))?;
+        Ok(sent.map_or_else(SentTally::default, |sent| SentTally::of(&case, &sent)))
+    })?;
+    let mut all = SentTally::default();
+    tallies.iter().for_each(|tally| all.join(tally));
+    println!("    {}", all.words());
     Ok(format!("{cases} cases, 0 differences"))
 }
 
-/// What the port sends, the port hears, byte for byte.
+/// What the port sends, the port and the original hear, byte for byte: at the
+/// fixed rates and some random ones, in both roles. Two bytes of training go
+/// before, which a receiver may hear amiss while it finds the bits.
 fn loops(options: &Options) -> Result<String, Found> {
     if PORT.send.is_none() || PORT.receive.is_none() {
         return Ok("not run, as the port does not export both".into());
     }
-    let mut random = Random::new(options.seed);
-    let text = random.bytes(30);
-    for rate in RATES {
-        for role in [ORIGINATE, ANSWER] {
-            let heard = heard_by_the_other_end(rate, role, &text);
-            if !heard.ends_with(&text) {
-                return Err(plain(format!(
-                    "rate {rate}, role {role}: sent {text:02X?}, heard {heard:02X?}"
-                )));
-            }
-        }
-    }
-    Ok(format!("{} bytes at {} rates in both roles, all heard", text.len(), RATES.len()))
+    let rates = RATES.len() + options.cases / 13;
+    let bytes = workers::all(0..2 * rates, |index| {
+        let mut random = Random::of_case(options.seed ^ 0x4C4F, index as u64);
+        let any = random.whole(8_000, 48_000);
+        let rate = RATES.get(index / 2).copied().unwrap_or(any);
+        let role = if index % 2 == 0 { ORIGINATE } else { ANSWER };
+        let amplitude = random.pick(&[0.02, 0.5, LOUD]);
+        loop_at(rate, role, amplitude, &random.bytes(30))
+    })?;
+    let bytes: usize = bytes.iter().sum();
+    Ok(format!("{} runs in both roles, {bytes} bytes, all heard by both", 2 * rates))
 }
 
-fn heard_by_the_other_end(rate: u32, role: u32, text: &[u8]) -> Vec<u8> {
-    let reads = (rate * 14 / 10 / 1_000) as usize;
-    let mut script = vec![AMPLITUDE, 0.5f32.to_bits(), IDLE_MARK, 40, WRITE, 2, IDLE_MARK, 12];
-    script.extend([WRITE, text.len() as u32]);
-    script.extend([READ, 1_000].repeat(reads));
-    let data = [&[0x55, 0x55], text].concat();
-    let case = SenderCase { rate, role, script, data, room: 1_000 * reads };
-    let sent = case.run(&PORT).expect("asked before");
-    let script = [1_000, 600, 100].repeat(reads);
-    let case = ReceiverCase { rate, role: 1 - role, samples: sent.output, script };
-    let heard = case.run(&PORT).expect("asked before");
+/// The number of bytes that were sent and heard.
+pub fn loop_at(rate: u32, role: u32, amplitude: f32, text: &[u8]) -> Result<usize, Found> {
+    let samples = sent_by_the_port(rate, role, amplitude, text);
+    let script = [1_000, 600, 100].repeat(samples.len().div_ceil(1_000));
+    let case = ReceiverCase { rate, role: 1 - role, samples, script };
+    let name = format!("rate {rate}, role {role}, amplitude {amplitude}: ");
+    let heard = check_receiver(&case, &name)?;
     let count: u64 = heard.answers.chunks_exact(HEARD).map(|call| call[1]).sum();
-    heard.bytes[..count as usize].to_vec()
+    let heard = &heard.bytes[..count as usize];
+    if !heard.ends_with(text) || heard.len() > TRAINING.len() + text.len() {
+        return Err(plain(format!("{name}sent {text:02X?}, heard {heard:02X?}")));
+    }
+    Ok(text.len())
+}
+
+const TRAINING: [u8; 2] = [0x55, 0x55];
+
+/// An amplitude with which no sample passes 1 (command `loudest`).
+pub const LOUD: f32 = 0.9;
+
+/// Idle mark, the training, idle mark, the text, idle mark.
+fn sent_by_the_port(rate: u32, role: u32, amplitude: f32, text: &[u8]) -> Vec<f32> {
+    let reads = (rate * 14 / 10 / 1_000) as usize;
+    let mut script = vec![AMPLITUDE, bits_of(amplitude), IDLE_MARK, 40];
+    script.extend([WRITE, TRAINING.len() as u64, IDLE_MARK, 12, WRITE, text.len() as u64]);
+    script.extend([READ, 1_000].repeat(reads));
+    let data = [&TRAINING, text].concat();
+    let case = SenderCase::whole(rate, role, data, script, 1_000 * reads);
+    case.run(&PORT).expect("asked before").samples
 }
 
 fn receiver_cases(options: &Options) -> Result<String, Found> {
     if PORT.receive.is_none() {
         return Ok("not compared, as the port exports none".into());
     }
-    let mut tallies: Vec<Tally> = KINDS.iter().map(|_| Tally::default()).collect();
     let indexes = match options.only {
         Some(index) => index..index + 1,
         None => 0..options.cases,
     };
     let cases = indexes.len();
-    for index in indexes {
+    let heard = workers::all(indexes, |index| {
         let kind = index % KINDS.len();
         let mut random = Random::of_case(options.seed, index as u64);
         let case = ReceiverCase::random(index, &KINDS[kind], &mut random);
         let name = format!("case {index} of seed {} ({}): ", options.seed, KINDS[kind].name);
         let heard = check_receiver(&case, &name)?;
-        tallies[kind].add(&case, &heard);
-    }
+        let mut tally = Tally::default();
+        tally.add(&case, &heard);
+        Ok((kind, tally))
+    })?;
+    let mut tallies: Vec<Tally> = KINDS.iter().map(|_| Tally::default()).collect();
+    heard.iter().for_each(|(kind, tally)| tallies[*kind].join(tally));
     Tally::heading();
     let mut all = Tally::default();
     for (kind, tally) in KINDS.iter().zip(&tallies) {
@@ -257,19 +281,21 @@ fn receiver_cases(options: &Options) -> Result<String, Found> {
 #[cfg(board)]
 fn board_cases(options: &Options) -> Result<String, Found> {
     let cases = options.cases / 8;
-    let mut seen = crate::boards::Seen::default();
-    for index in 0..cases {
+    let seen = workers::all(0..cases, |index| {
         let mut random = Random::of_case(options.seed ^ 0x424F, index as u64);
         let case = crate::boards::BoardCase::random(index, &mut random);
-        if let Some(words) = case.differs(&mut seen) {
-            return Err(plain(format!("case {index} of seed {}: {words}", options.seed)));
-        }
-    }
+        let name = format!("case {index} of seed {}: ", options.seed);
+        case.seen().map_err(|words| plain(format!("{name}{words}")))
+    })?;
+    let seen = crate::boards::Seen::sum(&seen);
     println!(
         "    {} writes, {} refused; {} bytes; lines answered 0, 11 to 20, 34: {:?}",
         seen.writes, seen.refused, seen.bytes, seen.answers
     );
-    Ok(format!("{cases} cases, compared after {} lists of writes, 0 differences", seen.stops))
+    Ok(format!(
+        "{cases} cases, {} of them after every write, {} lists of writes, 0 differences",
+        seen.every, seen.stops
+    ))
 }
 
 #[cfg(not(board))]
@@ -277,7 +303,7 @@ fn board_cases(_: &Options) -> Result<String, Found> {
     Ok("not compared, as the port exports none".into())
 }
 
-fn check_receiver(case: &ReceiverCase, name: &str) -> Result<Heard, Found> {
+pub fn check_receiver(case: &ReceiverCase, name: &str) -> Result<Heard, Found> {
     let heard = case.run(&ORIGINAL).expect("the original hears");
     match case.run(&PORT).and_then(|port| of_heard(&heard, &port)) {
         None => Ok(heard),
@@ -296,12 +322,13 @@ fn check_resampler(case: &ResamplerCase, name: &str) -> Result<(), Found> {
     }
 }
 
-fn check_sender(case: &SenderCase, name: &str) -> Result<(), Found> {
+/// What the original sent; None where the port exports no sender.
+pub fn check_sender(case: &SenderCase, name: &str) -> Result<Option<Sent>, Found> {
     let (Some(a), Some(b)) = (case.run(&ORIGINAL), case.run(&PORT)) else {
-        return Ok(());
+        return Ok(None);
     };
     match of_sent(&a, &b) {
-        None => Ok(()),
+        None => Ok(Some(a)),
         Some(words) => Err(found(case, name, words, |case, text| {
             text.sender(case, &case.run(&ORIGINAL).expect("the original sends"));
         })),
@@ -314,7 +341,7 @@ fn plain(words: String) -> Found {
 
 fn found<C>(case: &C, name: &str, words: String, write: fn(&C, &mut Text)) -> Found
 where
-    C: Case + 'static,
+    C: Case + Send + 'static,
 {
     let case = case.clone();
     Found {

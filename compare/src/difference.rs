@@ -1,7 +1,7 @@
 //! Where two answers to the same calls differ, in words.
 
 use crate::cases::{Heard, Resampled, Sent};
-use crate::layout::{HEARD, STATE, TOLD};
+use crate::layout::{HEARD, SENT, STATE, TOLD};
 
 /// The first difference between what the original and the port answered.
 pub type Difference = Option<String>;
@@ -20,11 +20,11 @@ fn in_list<T: PartialEq + std::fmt::Debug>(what: &str, a: &[T], b: &[T]) -> Diff
     differ(&format!("{what} {at}"), &a[at], &b[at])
 }
 
-/// In answers of two numbers, to calls or steps.
-fn in_told(what: &str, a: &[u64], b: &[u64]) -> Difference {
+/// In answers of several numbers each, which have these names.
+fn in_answers(what: &str, names: &[&str], a: &[u64], b: &[u64]) -> Difference {
     let at = a.iter().zip(b).position(|(a, b)| a != b)?;
-    let name = ["refusal", "count"][at % TOLD];
-    differ(&format!("{what} {}, {name}", at / TOLD), &a[at], &b[at])
+    let (call, name) = (at / names.len(), names[at % names.len()]);
+    differ(&format!("{what} {call}, {name}"), &a[at], &b[at])
 }
 
 fn in_floats(a: &[f64], b: &[f64], name: &dyn Fn(usize) -> String) -> Difference {
@@ -52,30 +52,29 @@ fn place_name(at: usize) -> String {
 }
 
 pub fn of_heard(a: &Heard, b: &Heard) -> Difference {
-    let names = ["answer", "bytes read", "events drained", "carrier", "framing errors"];
+    let names: [&str; HEARD] =
+        ["answer", "bytes read", "events drained", "carrier", "framing errors"];
     differ("calls run", &a.calls, &b.calls)
-        .or_else(|| {
-            let at = a.answers.iter().zip(&b.answers).position(|(a, b)| a != b)?;
-            let what = format!("call {}, {}", at / HEARD, names[at % HEARD]);
-            differ(&what, &a.answers[at], &b.answers[at])
-        })
+        .or_else(|| in_answers("call", &names, &a.answers, &b.answers))
         .or_else(|| in_list("byte", &a.bytes, &b.bytes))
         .or_else(|| in_list("event", &a.events, &b.events))
         .or_else(|| in_floats(&a.state, &b.state, &place_name))
 }
 
 pub fn of_resampled(a: &Resampled, b: &Resampled) -> Difference {
+    let names: [&str; TOLD] = ["refusal", "count"];
     differ("calls run", &a.calls, &b.calls)
-        .or_else(|| in_told("answer to call", &a.answers, &b.answers))
+        .or_else(|| in_answers("answer to call", &names, &a.answers, &b.answers))
         .or_else(|| in_floats(&a.output, &b.output, &|at| format!("output sample {at}")))
 }
 
 pub fn of_sent(a: &Sent, b: &Sent) -> Difference {
+    let names: [&str; SENT] = ["refusal", "count", "whether bits wait"];
     let bits = |s: &[f32]| -> Vec<u32> { s.iter().map(|x| x.to_bits()).collect() };
     differ("steps run", &a.steps, &b.steps)
-        .or_else(|| in_told("answer to step", &a.answers, &b.answers))
+        .or_else(|| in_answers("answer to step", &names, &a.answers, &b.answers))
         .or_else(|| {
-            let (a, b) = (bits(&a.output), bits(&b.output));
+            let (a, b) = (bits(&a.samples), bits(&b.samples));
             let at = a.iter().zip(&b).position(|(a, b)| a != b)?;
             Some(format!(
                 "sample {at}: {:08X} from the original, {:08X} from the port",

@@ -6,9 +6,8 @@
 pub const ORIGINATE: u32 = 0;
 pub const ANSWER: u32 = 1;
 
-// The answer to a call of the resampler or to a sender's step is two numbers:
-// 0 or the number of the refusal; then the count or the number asked for, 0
-// where there is none.
+// The answer to a call of the resampler is two numbers: 0 or the number of the
+// refusal; then the count, 0 where there is none.
 pub const TOLD: usize = 2;
 
 // A receiver's script has three numbers for each call: the samples to write,
@@ -31,20 +30,23 @@ pub const COUNTS: usize = 12;
 pub const SHOWN: usize = 3 + COUNTS;
 
 // A sender's script has two numbers for each step: one of the kinds below, and
-// its number.
+// its number n.
 pub const STEP: usize = 2;
-/// Write that many bytes, the next ones of the data.
-pub const WRITE: u32 = 0;
-/// Write that many bits of idle mark.
-pub const IDLE_MARK: u32 = 1;
-/// Read that many samples, behind the earlier ones.
-pub const READ: u32 = 2;
-/// Set the amplitude to the f32 with these bits.
-pub const AMPLITUDE: u32 = 3;
-/// Ask how many samples that many bits take.
-pub const SAMPLES_FOR_BITS: u32 = 4;
-/// Ask whether bits wait: 1 or 0.
-pub const PENDING: u32 = 5;
+/// Write n bytes, the next ones of the data, or as many as are left.
+pub const WRITE: u64 = 0;
+/// Write n bits of idle mark.
+pub const IDLE_MARK: u64 = 1;
+/// Set the amplitude to the f32 with the lowest 32 bits of n.
+pub const AMPLITUDE: u64 = 2;
+/// Read into the next n places of the samples, or as many as are left.
+pub const READ: u64 = 3;
+/// Ask how many samples n bits take; every other kind asks it too.
+pub const SAMPLES_FOR_BITS: u64 = 4;
+
+// A sender's answers are three numbers for each step: 0 or the number of the
+// refusal; the number asked for, or the places that a read filled, else 0; and
+// whether bits wait afterwards (0 or 1).
+pub const SENT: usize = 3;
 
 /// Places of a receiver's filter, used in full at 48,000.
 pub const TAPS: usize = 373;

@@ -1,10 +1,17 @@
 //! Holds the port against the Rust original, bit for bit.
 //!
 //!     compare [--cases N] [--seed S] [--only K] [--quick]
-//!     speed
+//!     speed [resampler|receiver|sender]
+//!     soak SAMPLES LINES [--seed S] [--program P] [--only receiver|sender|loops|lines]
+//!     loudest FROM TO STEP
 //!     vectors FOLDER
 //!     hear FILE RATE ROLE FOLDER
+//!     render RATE ROLE pcm|float
+//!     say FILE RATE ROLE
 //!     changes
+
+// A library that exports only some functions leaves some of this unused.
+#![cfg_attr(not(all(receiver, state, sender, board)), allow(dead_code))]
 
 #[cfg(board)]
 mod boards;
@@ -17,19 +24,24 @@ mod facts;
 mod hear;
 mod judge;
 mod layout;
+mod lines;
+mod loudest;
 mod oracle;
 mod port;
 mod random;
+mod render;
 #[cfg(test)]
 mod replay;
 mod scenes;
 mod shrink;
 mod side;
 mod signal;
+mod soak;
 mod speed;
 mod tally;
 mod text;
 mod vectors;
+mod workers;
 
 use std::process::ExitCode;
 
@@ -37,9 +49,16 @@ const USAGE: &str = "\
 usage: compare [--cases N] [--seed S]   the same calls to both sides
                [--only K]               receiver case K alone
                [--quick]                no search for a smaller case
-       speed                            the time of both sides
+       speed [resampler|receiver|sender]
+                                        the time of both sides
+       soak SAMPLES LINES [--seed S]    both sides on so many samples, and the
+               [--program P]            program P on so many lines
+               [--only PART]            receiver, sender, loops or lines alone
+       loudest FROM TO STEP             the sender's largest sample, at each STEPth rate
        vectors FOLDER                   the original's answers as text
        hear FILE RATE ROLE FOLDER       likewise, to a recording of f32 samples
+       render RATE ROLE pcm|float       a call as a WAV file on standard output
+       say FILE RATE ROLE               a file's bytes likewise, by the sender
        changes                          what the build changed in the original";
 
 fn main() -> ExitCode {
@@ -50,10 +69,27 @@ fn main() -> ExitCode {
             Some(options) => compare::run(&options),
             None => usage(),
         },
-        ["speed"] => speed::run(),
+        ["speed"] => speed::run(""),
+        ["speed", part @ ("resampler" | "receiver" | "sender")] => speed::run(part),
+        ["soak", ref options @ ..] => match soak::Options::from(options) {
+            Some(options) => soak::run(&options),
+            None => usage(),
+        },
+        ["loudest", from, to, step] => match (from.parse(), to.parse(), step.parse()) {
+            (Ok(from), Ok(to), Ok(step)) => loudest::run(from, to, step),
+            _ => usage(),
+        },
         ["vectors", folder] => vectors::run(folder),
         ["hear", file, rate, role, folder] => match (rate.parse(), role.parse()) {
             (Ok(rate), Ok(role)) => hear::run(file, rate, role, folder),
+            _ => usage(),
+        },
+        ["render", rate, role, format @ ("pcm" | "float")] => match (rate.parse(), role.parse()) {
+            (Ok(rate @ 8_000..=48_000), Ok(role)) => render::run(rate, role, format == "float"),
+            _ => usage(),
+        },
+        ["say", file, rate, role] => match (rate.parse(), role.parse()) {
+            (Ok(rate @ 8_000..=48_000), Ok(role)) => render::say(file, rate, role),
             _ => usage(),
         },
         ["changes"] => {

@@ -24,8 +24,8 @@ const MOST_ACCEPTED: u64 = 4_294_967_296;
 const MOST_WAITING_BYTES: usize = 409;
 const MOST_BYTES: u32 = 512;
 const MOST_EVENTS: u32 = 64;
-const MOST_WAITING_BITS: usize = 4_096;
-const MOST_BITS_ASKED: u32 = 1_048_576;
+const MOST_WAITING_BITS: u64 = 4_096;
+const MOST_BITS_ASKED: u64 = 1_048_576;
 
 pub fn rate_fits(rate: u32) -> bool {
     (SLOWEST..=FASTEST).contains(&rate)
@@ -297,20 +297,21 @@ struct Sender {
 }
 
 impl Sender {
-    fn room_for(&self, bits: usize) -> bool {
-        self.tx.bits.len() + bits <= MOST_WAITING_BITS
+    /// "waiting + new bits exceed 4,096".
+    fn room_for(&self, bits: u64) -> bool {
+        (self.tx.bits.len() as u64).saturating_add(bits) <= MOST_WAITING_BITS
     }
 
     fn write(&mut self, data: &[u8]) -> Answer {
-        if !self.room_for(10 * data.len()) {
+        if !self.room_for(10 * data.len() as u64) {
             return Err(33);
         }
         self.tx.write(data);
         Ok(0)
     }
 
-    fn write_idle_mark(&mut self, n: u32) -> Answer {
-        if !self.room_for(n as usize) {
+    fn write_idle_mark(&mut self, n: u64) -> Answer {
+        if !self.room_for(n) {
             return Err(33);
         }
         self.tx.write_idle_mark(n as usize);
@@ -326,7 +327,7 @@ impl Sender {
         }
         self.tx.read(out);
         self.given += out.len() as u64;
-        Ok(0)
+        Ok(out.len() as u64)
     }
 
     fn set_amplitude(&mut self, amplitude: f32) -> Answer {
@@ -337,7 +338,7 @@ impl Sender {
         Ok(0)
     }
 
-    fn samples_for_bits(&self, n: u32) -> Answer {
+    fn samples_for_bits(&self, n: u64) -> Answer {
         if n > MOST_BITS_ASKED {
             return Err(7);
         }
@@ -345,16 +346,21 @@ impl Sender {
     }
 }
 
+/// Where `n` places from `from` on end, in a list of `len`.
+pub fn end_of(from: usize, n: u64, len: usize) -> usize {
+    (from as u64).saturating_add(n).min(len as u64) as usize
+}
+
 /// Runs a sender's script (`layout::STEP`), as long as there is room for an
-/// answer (`layout::TOLD`). Returns the number of steps run, 0 where the rate
-/// is refused. The samples of a refused read are left as they were, and the
-/// next read goes to the places behind them.
+/// answer (`layout::SENT`). Returns the number of steps run, 0 where the rate
+/// is refused. Bytes and places of a refused step are passed over, and the
+/// places are left as they were.
 pub fn send(
     rate: u32,
     role: u32,
-    script: &[u32],
     data: &[u8],
-    output: &mut [f32],
+    script: &[u64],
+    samples: &mut [f32],
     answers: &mut [u64],
 ) -> usize {
     if !rate_fits(rate) {
@@ -362,26 +368,25 @@ pub fn send(
     }
     let mut sender = Sender { tx: Tx::new(config(rate, role)), given: 0 };
     let (mut taken, mut filled, mut steps) = (0, 0, 0);
-    for (step, told) in script.chunks_exact(STEP).zip(answers.chunks_exact_mut(TOLD)) {
-        let number = step[1];
+    for (step, sent) in script.chunks_exact(STEP).zip(answers.chunks_exact_mut(SENT)) {
+        let n = step[1];
         let answer = match step[0] {
             WRITE => {
-                let bytes = part(data, taken, number);
-                taken += bytes.len();
-                sender.write(bytes)
+                let start = taken;
+                taken = end_of(start, n, data.len());
+                sender.write(&data[start..taken])
             }
-            IDLE_MARK => sender.write_idle_mark(number),
+            IDLE_MARK => sender.write_idle_mark(n),
+            AMPLITUDE => sender.set_amplitude(f32::from_bits(n as u32)),
             READ => {
-                let end = output.len().min(filled + number as usize);
-                let out = &mut output[filled..end];
-                filled = end;
-                sender.read(out)
+                let start = filled;
+                filled = end_of(start, n, samples.len());
+                sender.read(&mut samples[start..filled])
             }
-            AMPLITUDE => sender.set_amplitude(f32::from_bits(number)),
-            SAMPLES_FOR_BITS => sender.samples_for_bits(number),
-            _ => Ok(u64::from(sender.tx.pending())),
+            _ => sender.samples_for_bits(n),
         };
-        tell(answer, told);
+        tell(answer, &mut sent[..TOLD]);
+        sent[TOLD] = u64::from(sender.tx.pending());
         steps += 1;
     }
     steps

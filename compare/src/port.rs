@@ -79,12 +79,12 @@ extern "C" {
     fn morkhetta_send(
         rate: u32,
         role: u32,
-        script: *const u32,
-        script_len: usize,
         data: *const u8,
         data_len: usize,
-        output: *mut f32,
-        output_len: usize,
+        script: *const u64,
+        script_len: usize,
+        samples: *mut f32,
+        samples_len: usize,
         answers: *mut u64,
         answers_len: usize,
     ) -> usize;
@@ -184,21 +184,21 @@ pub fn receiver_state(
 pub fn send(
     rate: u32,
     role: u32,
-    script: &[u32],
     data: &[u8],
-    output: &mut [f32],
+    script: &[u64],
+    samples: &mut [f32],
     answers: &mut [u64],
 ) -> usize {
     unsafe {
         morkhetta_send(
             rate,
             role,
-            script.as_ptr(),
-            script.len(),
             data.as_ptr(),
             data.len(),
-            output.as_mut_ptr(),
-            output.len(),
+            script.as_ptr(),
+            script.len(),
+            samples.as_mut_ptr(),
+            samples.len(),
             answers.as_mut_ptr(),
             answers.len(),
         )

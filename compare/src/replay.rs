@@ -2,7 +2,7 @@
 //! hold all that is needed. Only for the tests: the repository's own program
 //! (`crates/replay`) replays them on the port.
 
-use crate::cases::{ReceiverCase, ResamplerCase, SenderCase};
+use crate::cases::{bits_of, ReceiverCase, ResamplerCase, SenderCase};
 use crate::layout::*;
 use crate::side::{Side, ORIGINAL, PORT};
 use crate::text::Text;
@@ -110,26 +110,31 @@ fn sender_again(part: &[&str], side: &Side, text: &mut Text) {
     for line in &part[1..] {
         let fields = fields(line);
         let first = fields.first().copied().unwrap_or("");
+        let wide = || first.parse::<u64>().expect("a decimal number");
         match &line[..1] {
-            "A" => script.extend([AMPLITUDE, f32_of(first).to_bits()]),
-            "U" => data.extend(fields.iter().map(|b| byte_of(b))),
-            "Q" => {
-                script.extend([WRITE, (data.len() - written) as u32]);
+            "A" => script.extend([AMPLITUDE, bits_of(f32_of(first))]),
+            "S" => data.extend(fields.iter().map(|b| byte_of(b))),
+            "N" => data.extend(vec![byte_of(first); number(fields[1]) as usize]),
+            "K" => {
+                script.extend([WRITE, (data.len() - written) as u64]);
                 written = data.len();
             }
-            "I" => script.extend([IDLE_MARK, number(first)]),
-            "G" => {
-                script.extend([READ, number(first)]);
-                room += number(first) as usize;
+            "I" => script.extend([IDLE_MARK, wide()]),
+            "G" | "H" => {
+                script.extend([READ, wide()]);
+                room += wide() as usize;
             }
-            "L" => script.extend([SAMPLES_FOR_BITS, number(first)]),
             _ => {
-                assert!(line.starts_with('K'), "{line}");
-                script.extend([PENDING, 0]);
+                assert!(line.starts_with('L'), "{line}");
+                script.extend([SAMPLES_FOR_BITS, wide()]);
             }
         }
     }
-    let case = SenderCase { rate: number(head[0]), role: number(head[1]), script, data, room };
+    // A refused rate has no step: one that would run shows it.
+    if script.is_empty() {
+        script.extend([READ, 0]);
+    }
+    let case = SenderCase::whole(number(head[0]), number(head[1]), data, script, room);
     text.sender(&case, &case.run(side).expect("the side sends"));
 }
 

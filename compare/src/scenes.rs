@@ -1,7 +1,8 @@
 //! The kinds of call that a receiver is put through. Each one is there for a
 //! part of the receiver, which its comment names.
 
-use crate::layout::{AMPLITUDE, ANSWER, IDLE_MARK, ORIGINATE, READ, STEP, WRITE};
+use crate::cases::bits_of;
+use crate::layout::{AMPLITUDE, ANSWER, IDLE_MARK, ORIGINATE, READ, SENT, STEP, WRITE};
 use crate::oracle;
 use crate::random::Random;
 use crate::signal::{Modulation, Tape, Tones, Wave};
@@ -127,17 +128,15 @@ fn sent_line(stage: &mut Stage) -> Scene {
     let text = stage.text(30);
     let amplitude = stage.random.pick(&[0.9f32, 0.5, 0.02]);
     let data = [&[0x55, 0x55][..], &text].concat();
-    let reads = stage.rate * 13 / 10 / 1000;
-    let mut script = vec![AMPLITUDE, amplitude.to_bits(), IDLE_MARK, 40];
-    script.extend([WRITE, 2, IDLE_MARK, 12, WRITE, text.len() as u32]);
-    for _ in 0..reads {
-        script.extend([READ, 1000]);
-    }
-    let mut samples = vec![0.0; 1000 * reads as usize];
-    let mut answers = vec![0; script.len() / STEP];
+    let reads = (stage.rate * 13 / 10 / 1000) as usize;
+    let mut script = vec![AMPLITUDE, bits_of(amplitude), IDLE_MARK, 40];
+    script.extend([WRITE, 2, IDLE_MARK, 12, WRITE, text.len() as u64]);
+    script.extend([READ, 1000].repeat(reads));
+    let mut samples = vec![0.0; 1000 * reads];
+    let mut answers = vec![0; script.len() / STEP * SENT];
     // What this receiver hears is the other role's voice.
     let role = if stage.role == ORIGINATE { ANSWER } else { ORIGINATE };
-    oracle::send(stage.rate, role, &script, &data, &mut samples, &mut answers);
+    oracle::send(stage.rate, role, &data, &script, &mut samples, &mut answers);
     let mut tape = stage.tape();
     tape.append(&samples);
     plain(tape)

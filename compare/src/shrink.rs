@@ -9,7 +9,7 @@ use std::time::{Duration, Instant};
 
 use crate::cases::{ReceiverCase, ResamplerCase, SenderCase};
 use crate::difference::{of_heard, of_resampled, of_sent, Difference};
-use crate::layout::{CALL, ORIGINATE, READ, STEP, TOLD, WRITE};
+use crate::layout::{CALL, ORIGINATE, READ, SENT, STEP, TOLD, WRITE};
 use crate::side::{ORIGINAL, PORT};
 
 const TIME: Duration = Duration::from_secs(20);
@@ -106,9 +106,8 @@ impl<C: Case> Search<C> {
 }
 
 /// Where call `call` begins when what is handed to the calls lies end to end.
-fn start_of(lengths: impl Iterator<Item = u32>, call: usize, end: usize) -> usize {
-    let sum: usize = lengths.take(call).map(|n| n as usize).sum();
-    sum.min(end)
+fn start_of(lengths: impl Iterator<Item = u64>, call: usize, end: usize) -> usize {
+    lengths.take(call).fold(0, u64::saturating_add).min(end as u64) as usize
 }
 
 fn without<T: Clone>(list: &[T], some: Range<usize>) -> Vec<T> {
@@ -142,7 +141,7 @@ impl Case for ReceiverCase {
     }
 
     fn without_calls(&self, some: Range<usize>) -> ReceiverCase {
-        let lengths = || self.script.chunks_exact(CALL).map(|call| call[0]);
+        let lengths = || self.script.chunks_exact(CALL).map(|call| u64::from(call[0]));
         let end = self.samples.len();
         let handed = start_of(lengths(), some.start, end)..start_of(lengths(), some.end, end);
         ReceiverCase {
@@ -200,7 +199,7 @@ impl Case for ResamplerCase {
     }
 
     fn without_calls(&self, some: Range<usize>) -> ResamplerCase {
-        let lengths = || self.lengths.iter().copied();
+        let lengths = || self.lengths.iter().map(|&n| u64::from(n));
         let end = self.input.len();
         let handed = start_of(lengths(), some.start, end)..start_of(lengths(), some.end, end);
         ResamplerCase {
@@ -253,9 +252,8 @@ impl Case for SenderCase {
 
     fn without_calls(&self, some: Range<usize>) -> SenderCase {
         let numbers = |kind| {
-            self.script
-                .chunks_exact(STEP)
-                .map(move |step| if step[0] == kind { step[1] } else { 0 })
+            let of_kind = move |step: &[u64]| if step[0] == kind { step[1] } else { 0 };
+            self.script.chunks_exact(STEP).map(of_kind)
         };
         let handed = |kind, end| {
             start_of(numbers(kind), some.start, end)..start_of(numbers(kind), some.end, end)
@@ -263,6 +261,7 @@ impl Case for SenderCase {
         SenderCase {
             data: without(&self.data, handed(WRITE, self.data.len())),
             room: self.room - handed(READ, self.room).len(),
+            answers: self.answers.saturating_sub(some.len() * SENT),
             script: without(&self.script, some.start * STEP..some.end * STEP),
             ..*self
         }

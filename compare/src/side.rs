@@ -6,7 +6,7 @@ type Resample = fn(u32, u32, &[f64], &[u32], &mut [f64], &mut [u64]) -> usize;
 type MaxOutputLen = fn(u32, u32, &[u32], &mut [u64]) -> usize;
 pub type Receive = fn(u32, u32, &[f32], &[u32], &mut [u8], &mut [u8], &mut [u64]) -> usize;
 type ReceiverState = fn(u32, u32, &[f32], &[u32], &mut [f64]) -> u32;
-pub type Send = fn(u32, u32, &[u32], &[u8], &mut [f32], &mut [u64]) -> usize;
+pub type Send = fn(u32, u32, &[u8], &[u64], &mut [f32], &mut [u64]) -> usize;
 
 /// What the port does not export yet is None.
 pub struct Side {

@@ -13,6 +13,7 @@ use original::resample::Resampler;
 use original::rx::Rx;
 use original::tx::Tx;
 
+use crate::cases::bits_of;
 use crate::clock;
 use crate::layout::*;
 use crate::oracle::config;
@@ -28,22 +29,26 @@ const LINE: u32 = 1;
 /// A run repeats its list of calls until it takes about this long.
 const LONG_ENOUGH: f64 = 0.02;
 
-pub fn run() -> ExitCode {
+/// Those of the rows that begin with this word, all where it is empty.
+pub fn run(part: &str) -> ExitCode {
     println!("median of {RUNS} runs in turns, nanoseconds a sample; port = {}", PORT.name);
     println!("{:42} {:>9} {:>9} {:>7} {:>9}", "", "original", "port", "ratio", "(fastest)");
-    for (src, dst) in [(48_000, 8_000), (8_000, 48_000), (44_100, 8_000), (8_000, 44_100)] {
-        resampler(src, dst, 1_024);
+    let wanted = |name: &str| name.starts_with(part);
+    if wanted("resampler") {
+        for (src, dst) in [(48_000, 8_000), (8_000, 48_000), (44_100, 8_000), (8_000, 44_100)] {
+            resampler(src, dst, 1_024);
+        }
     }
-    if let Some(receive) = PORT.receive {
+    if let (Some(receive), true) = (PORT.receive, wanted("receiver")) {
         for rate in [8_000, 44_100, 48_000] {
             for block in [1_024, 64] {
                 receiver(receive, rate, block);
             }
         }
     }
-    if let Some(send) = PORT.send {
-        for rate in [8_000, 44_100, 48_000] {
-            for block in [1_024, 64] {
+    if let (Some(send), true) = (PORT.send, wanted("sender")) {
+        for rate in [8_000, 8_001, 11_025, 22_050, 44_100, 48_000] {
+            for block in [1_024, 441, 64] {
                 sender(send, rate, block);
             }
         }
@@ -121,28 +126,31 @@ fn receiver(receive: Receive, rate: u32, block: u32) {
     std::hint::black_box(seen);
 }
 
-fn sender(send: Send, rate: u32, block: u32) {
-    let mut output = vec![0.0; (rate * LINE) as usize];
-    let mut script = vec![AMPLITUDE, 0.5f32.to_bits(), WRITE, 60];
-    script.extend([READ, block].repeat(output.len().div_ceil(block as usize)));
-    let mut answers = vec![0; script.len() / STEP * TOLD];
-    let mut original_output = output.clone();
+fn sender(send: Send, rate: u32, block: usize) {
+    let mut samples = vec![0.0; (rate * LINE) as usize];
+    let mut script = vec![AMPLITUDE, bits_of(0.5), WRITE, 60];
+    script.extend([READ, block as u64].repeat(samples.len().div_ceil(block)));
+    let mut answers = vec![0; script.len() / STEP * SENT];
+    let mut original_samples = samples.clone();
     let data = [0x35; 60];
+    let mut waits = 0;
     measure(
         &format!("sender at {rate}, blocks of {block}"),
-        output.len(),
+        samples.len(),
         &mut || {
             let mut tx = Tx::new(config(rate, ORIGINATE));
             tx.set_amplitude(0.5);
             tx.write(&data);
-            for block in original_output.chunks_mut(block as usize) {
+            for block in original_samples.chunks_mut(block) {
                 tx.read(block);
+                waits += usize::from(tx.pending());
             }
         },
         &mut || {
-            send(rate, ORIGINATE, &script, &data, &mut output, &mut answers);
+            send(rate, ORIGINATE, &data, &script, &mut samples, &mut answers);
         },
     );
+    std::hint::black_box(waits);
 }
 
 /// Runs both in turns and prints a line.

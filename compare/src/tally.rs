@@ -1,10 +1,10 @@
-//! What the receiver cases of one kind brought about, so that a reader sees
-//! that they reach the parts of the receiver that they are there for.
+//! What the receiver cases of one kind brought about, and the sender cases, so
+//! that a reader sees that they reach the parts that they are there for.
 
 use std::collections::BTreeMap;
 
-use crate::cases::{Heard, ReceiverCase};
-use crate::layout::HEARD;
+use crate::cases::{Heard, ReceiverCase, SenderCase, Sent};
+use crate::layout::{HEARD, READ, SENT, STEP};
 
 #[derive(Default)]
 pub struct Tally {
@@ -79,5 +79,45 @@ impl Tally {
             self.overflows,
             refused.join(", ")
         );
+    }
+}
+
+#[derive(Default)]
+pub struct SentTally {
+    steps: usize,
+    samples: u64,
+    /// Steps behind which bits waited.
+    waits: usize,
+    refused: BTreeMap<u64, usize>,
+}
+
+impl SentTally {
+    pub fn of(case: &SenderCase, sent: &Sent) -> SentTally {
+        let mut tally = SentTally { steps: sent.steps, ..SentTally::default() };
+        let answers = sent.answers.chunks_exact(SENT).take(sent.steps);
+        for (step, told) in case.script.chunks_exact(STEP).zip(answers) {
+            tally.samples += if step[0] == READ { told[1] } else { 0 };
+            tally.waits += told[2] as usize;
+            if told[0] != 0 {
+                *tally.refused.entry(told[0]).or_default() += 1;
+            }
+        }
+        tally
+    }
+
+    pub fn join(&mut self, other: &SentTally) {
+        self.steps += other.steps;
+        self.samples += other.samples;
+        self.waits += other.waits;
+        for (&number, &n) in &other.refused {
+            *self.refused.entry(number).or_default() += n;
+        }
+    }
+
+    pub fn words(&self) -> String {
+        format!(
+            "{} steps, bits waiting behind {}; {} samples; refused {:?}",
+            self.steps, self.waits, self.samples, self.refused
+        )
     }
 }

@@ -26,30 +26,36 @@
 //!                        places
 //!     M src dst n        max_output_len of n
 //!
-//! Sender (not recorded yet). There is one block of bytes, empty at first.
+//! Sender. Its bytes join the block as samples do, two digits each; a call takes
+//! or drops them.
 //!
 //!     T rate role        a fresh sender
 //!     A x                the amplitude is set to the f32 x
-//!     U b b ..           these bytes join the block, 64 at most
-//!     Q                  the block is written, then empty
+//!     K                  the block's bytes are written
 //!     I n                n bits of idle mark are written
-//!     G n                n samples are read
+//!     G n                n samples are read, and the bits of each printed
+//!     H n                n samples are read, and the sum of their bits printed:
+//!                        from 0, 31 times the sum so far plus the next sample's
+//!                        bits, modulo 4,294,967,296, for each in turn
 //!     L n                samples_for_bits of n
-//!     K                  whether bits wait
 //!
 //! What is printed has one line for each call, with 0 or the number of the
-//! refusal, or a count; and behind a resampler's call or a sender's read one
-//! line for each sample's bits. Of a NaN only that it is one.
+//! refusal, or a count, and of a sender whether bits wait afterwards; and behind
+//! a resampler's call or a sender's G one line for each sample's bits. Of a NaN
+//! only that it is one.
 
 use std::fmt::Write;
 
 use crate::cases::{Heard, ReceiverCase, Resampled, ResamplerCase, SenderCase, Sent};
 use crate::layout::*;
+use crate::oracle::end_of;
 
 /// Equal samples in a row from which on they are counted, and samples of two
 /// values from which on they are written as bits.
 const COUNTED: usize = 6;
 const AS_BITS: usize = 16;
+/// The most samples of a sender's read that are printed each.
+const LISTED: usize = 64;
 /// The most samples on a line of bits.
 const ON_A_LINE: usize = 1_024;
 
@@ -64,6 +70,11 @@ pub struct Text {
 impl Text {
     pub fn new() -> Text {
         Text { calls: String::new(), answers: String::new() }
+    }
+
+    /// The bytes of both.
+    pub fn len(&self) -> usize {
+        self.calls.len() + self.answers.len()
     }
 
     fn call(&mut self, words: &str) {
@@ -188,69 +199,97 @@ impl Text {
             if equal.len() >= COUNTED {
                 self.call(&format!("N {:016x} {}", equal[0], equal.len()));
             } else {
-                self.joined(equal);
+                self.joined(equal.iter().map(|x| format!("{x:016x}")));
             }
         }
     }
 
-    /// Joins samples to the last line, if it has samples and room.
-    fn joined(&mut self, fields: &[u64]) {
+    /// Joins samples or bytes to the last line, if it has such and room.
+    fn joined(&mut self, fields: impl Iterator<Item = String>) {
         for field in fields {
             let last = self.calls.lines().last().unwrap_or("");
             if last.starts_with('S') && last.len() < 16 * 17 {
                 self.calls.pop();
-                let _ = writeln!(self.calls, " {field:016x}");
+                let _ = writeln!(self.calls, " {field}");
             } else {
-                self.call(&format!("S {field:016x}"));
+                self.call(&format!("S {field}"));
             }
         }
     }
 
+    /// A sender's steps and what they answered, up to the last one that ran. A
+    /// case has one step at least, as above.
     pub fn sender(&mut self, case: &SenderCase, sent: &Sent) {
         let refused = u8::from(sent.steps == 0);
         self.call(&format!("T {} {}", case.rate, case.role));
         self.answer(&format!("sender {} {}: {refused}", case.rate, case.role));
         let (mut byte, mut sample) = (0, 0);
-        for (step, told) in case.script.chunks_exact(STEP).zip(sent.answers.chunks_exact(TOLD)) {
-            let (n, answer) = (step[1], counted(told));
+        let answers = sent.answers.chunks_exact(SENT).take(sent.steps);
+        for (step, told) in case.script.chunks_exact(STEP).zip(answers) {
+            let (n, number, wait) = (step[1], told[0], told[2]);
             match step[0] {
                 WRITE => {
-                    let end = case.data.len().min(byte + n as usize);
-                    self.fields("U", &hex8(&case.data[byte..end]), 64);
+                    let end = end_of(byte, n, case.data.len());
+                    self.bytes(&case.data[byte..end]);
+                    self.call("K");
+                    self.answer(&format!("send {}: {number}, wait {wait}", end - byte));
                     byte = end;
-                    self.call("Q");
-                    self.answer(&format!("send: {answer}"));
                 }
                 IDLE_MARK => {
                     self.call(&format!("I {n}"));
-                    self.answer(&format!("idle mark {n}: {answer}"));
-                }
-                READ => {
-                    self.call(&format!("G {n}"));
-                    self.answer(&format!("read {n}: {answer}"));
-                    let end = case.room.min(sample + n as usize);
-                    if told[0] == 0 {
-                        for y in &sent.output[sample..end] {
-                            self.answer(&format!("{:08x}", y.to_bits()));
-                        }
-                    }
-                    sample = end;
+                    self.answer(&format!("idle mark {n}: {number}, wait {wait}"));
                 }
                 AMPLITUDE => {
-                    self.call(&format!("A {n:08x}"));
-                    self.answer(&format!("amplitude: {answer}"));
+                    let x = format!("{:08x}", n as u32);
+                    self.call(&format!("A {x}"));
+                    self.answer(&format!("amplitude {x}: {number}, wait {wait}"));
                 }
-                SAMPLES_FOR_BITS => {
-                    self.call(&format!("L {n}"));
-                    self.answer(&format!("samples for {n} bits: {answer}"));
+                READ => {
+                    let end = end_of(sample, n, case.room);
+                    self.read(&sent.samples[sample..end], number, wait);
+                    sample = end;
                 }
                 _ => {
-                    self.call("K");
-                    self.answer(&format!("bits wait: {answer}"));
+                    self.call(&format!("L {n}"));
+                    let count = counted(&told[..TOLD]);
+                    self.answer(&format!("samples for {n} bits: {count}, wait {wait}"));
                 }
             }
         }
     }
+
+    /// Few samples each, more by their sum.
+    fn read(&mut self, samples: &[f32], number: u64, wait: u64) {
+        let n = samples.len();
+        let few = n <= LISTED;
+        self.call(&format!("{} {n}", if few { "G" } else { "H" }));
+        if number != 0 || few {
+            self.answer(&format!("read {n}: {number}, wait {wait}"));
+        } else {
+            let sum = sum_of(samples);
+            self.answer(&format!("read {n}: {number}, wait {wait}, sum {sum:08x}"));
+        }
+        if number == 0 && few {
+            for y in samples {
+                self.answer(&format!("{:08x}", y.to_bits()));
+            }
+        }
+    }
+
+    fn bytes(&mut self, bytes: &[u8]) {
+        for equal in bytes.chunk_by(|a, b| a == b) {
+            if equal.len() >= COUNTED {
+                self.call(&format!("N {:02x} {}", equal[0], equal.len()));
+            } else {
+                self.joined(equal.iter().map(|b| format!("{b:02x}")));
+            }
+        }
+    }
+}
+
+/// `H`'s sum of the samples' bits.
+fn sum_of(samples: &[f32]) -> u32 {
+    samples.iter().fold(0, |sum: u32, y| sum.wrapping_mul(31).wrapping_add(y.to_bits()))
 }
 
 /// An answer of two numbers: the count, or the number of the refusal.
@@ -313,8 +352,4 @@ fn digits(samples: &[u32], size: u32) -> String {
             format!("{digit:x}")
         })
         .collect()
-}
-
-fn hex8(list: &[u8]) -> Vec<String> {
-    list.iter().map(|x| format!("{x:02x}")).collect()
 }

@@ -7,23 +7,27 @@
 use std::path::Path;
 use std::process::ExitCode;
 
-use crate::cases::{ReceiverCase, ResamplerCase, SenderCase};
+use crate::cases::{bits_of, ReceiverCase, ResamplerCase, SenderCase};
 use crate::layout::*;
 use crate::random::Random;
 use crate::side::ORIGINAL;
 use crate::signal::{Modulation, Tape, Tones, Wave};
 use crate::text::{Remark, Text};
 
-/// The most that both files together may take.
+/// The most that both files together may take, and the sender's part of them.
 const LIMIT: usize = 200_000;
+const LIMIT_OF_SENDER: usize = 60_000;
 
 /// Writes `stdin`, the calls, and `stdout`, the original's answers, into the
-/// folder of the program that replays them. The sender's wait until it does.
+/// folder of the program that replays them.
 pub fn run(folder: &str) -> ExitCode {
     let mut text = Text::new();
     receiver(&mut text);
     resampler(&mut text);
-    let mut total = 0;
+    let before = text.len();
+    sender(&mut text);
+    println!("the sender's part: {} bytes", text.len() - before);
+    let limit = LIMIT.min(before) + LIMIT_OF_SENDER;
     for (name, text) in [("stdin", &text.calls), ("stdout", &text.answers)] {
         let path = Path::new(folder).join(name);
         if let Err(e) = std::fs::write(&path, text) {
@@ -31,10 +35,9 @@ pub fn run(folder: &str) -> ExitCode {
             return ExitCode::FAILURE;
         }
         println!("{}: {} lines, {} bytes", path.display(), text.lines().count(), text.len());
-        total += text.len();
     }
-    if total > LIMIT {
-        eprintln!("{total} bytes are more than {LIMIT}");
+    if text.len() > limit {
+        eprintln!("{} bytes are more than {limit}", text.len());
         return ExitCode::FAILURE;
     }
     ExitCode::SUCCESS
@@ -421,67 +424,124 @@ fn output_lengths(text: &mut Text, random: &mut Random) {
     }
 }
 
-#[allow(dead_code)] // Until the program replays a sender; the tests run it.
 pub fn sender(text: &mut Text) {
-    text.remark("The sender: each step, the original's answer, and the bits of its samples.");
+    text.remark(
+        "The sender: each step, and the original's answer; the bits of its samples, or their sum.",
+    );
+    text.remark("rates outside 8000 to 48000 get 1");
+    for (rate, role) in [(7_999, ORIGINATE), (48_001, ANSWER), (0, ANSWER), (u32::MAX, ORIGINATE)] {
+        add_sender(text, rate, role, &[[READ, 0]]);
+    }
+    text.remark("bytes, marks and settings between reads");
     for (rate, role, amplitude) in [
         (8_000, ORIGINATE, 1.0f32),
-        (44_100, ANSWER, 0.3),
-        (48_000, ORIGINATE, 0.02),
         (8_001, ANSWER, 0.9),
+        (11_025, ORIGINATE, 0.7),
+        (22_050, ANSWER, 0.5),
+        (44_100, ANSWER, 0.3),
+        (47_999, ORIGINATE, 1.0),
+        (48_000, ORIGINATE, 0.02),
     ] {
         add_sender(text, rate, role, &sent_bytes(amplitude));
     }
-    text.remark("refused steps");
+    text.remark("single samples, so that the place of each bit's end shows");
+    add_sender(text, 8_000, ANSWER, &one_by_one(100));
+    add_sender(text, 9_999, ORIGINATE, &one_by_one(60));
+    text.remark("blocks of one length until all bits are sent, and idle mark behind them");
+    let mut random = Random::new(5_458);
+    for block in [7, 64, 65, 441, 1_024, 1_023] {
+        for rate in [random.whole(8_001, 16_000), random.whole(16_001, 48_000)] {
+            add_sender(text, rate, random.whole(ORIGINATE, ANSWER), &in_blocks(rate, block));
+        }
+    }
+    text.remark("each limit, reached and passed");
     add_sender(text, 16_000, ANSWER, &refused_steps());
+    text.remark("how many samples bits take");
+    for rate in [8_000, 8_001, 11_025, 44_100, 48_000] {
+        let asked = [0, 1, 2, 3, 10, 299, 300, 4_096, 1_048_575, 1_048_576, 1_048_577, 1 << 40];
+        add_sender(text, rate, ORIGINATE, &asked.map(|n| [SAMPLES_FOR_BITS, n]));
+    }
 }
 
 /// Runs the steps with enough bytes and places for all of them.
-fn add_sender(text: &mut Text, rate: u32, role: u32, steps: &[[u32; STEP]]) {
-    let total = |kind| steps.iter().filter(|step| step[0] == kind).map(|step| step[1]).sum::<u32>();
-    let data = [0x41, 0xFF, 0x00].into_iter().cycle().take(total(WRITE) as usize).collect();
-    let room = total(READ) as usize;
-    let case = SenderCase { rate, role, script: steps.concat(), data, room };
+fn add_sender(text: &mut Text, rate: u32, role: u32, steps: &[[u64; STEP]]) {
+    let total = |kind| steps.iter().filter(|step| step[0] == kind).map(|step| step[1]).sum::<u64>();
+    let data = [0x41, 0xFF, 0x00, 0x55, 0x0A].into_iter().cycle();
+    let data = data.take(total(WRITE) as usize).collect();
+    let case = SenderCase::whole(rate, role, data, steps.concat(), total(READ) as usize);
     text.sender(&case, &case.run(&ORIGINAL).expect("the original sends"));
 }
 
-/// Bytes, marks and settings between reads.
-fn sent_bytes(amplitude: f32) -> Vec<[u32; STEP]> {
-    vec![
-        [AMPLITUDE, amplitude.to_bits()],
-        [PENDING, 0],
+fn sent_bytes(amplitude: f32) -> Vec<[u64; STEP]> {
+    let mut steps = vec![
+        [AMPLITUDE, bits_of(amplitude)],
         [READ, 1],
         [WRITE, 2],
         [IDLE_MARK, 3],
-        [PENDING, 0],
         [READ, 7],
         [READ, 0],
-        [READ, 250],
-        [WRITE, 1],
-        [AMPLITUDE, 0.5f32.to_bits()],
         [READ, 64],
-        [READ, 200],
-        [SAMPLES_FOR_BITS, 1],
-        [SAMPLES_FOR_BITS, 3],
-        [SAMPLES_FOR_BITS, 1_048_576],
-    ]
+        [READ, 441],
+        [WRITE, 3],
+        [AMPLITUDE, bits_of(0.5)],
+        [READ, 30],
+        [READ, 1_024],
+        [WRITE, 1],
+        [READ, 65],
+        [IDLE_MARK, 1],
+        [WRITE, 4],
+    ];
+    steps.extend([[READ, 1_024]; 9]);
+    steps.push([READ, 16]);
+    steps
 }
 
-/// Each limit, reached and passed.
-fn refused_steps() -> Vec<[u32; STEP]> {
+fn one_by_one(samples: usize) -> Vec<[u64; STEP]> {
+    let mut steps = vec![[WRITE, 1]];
+    steps.extend(vec![[READ, 1]; samples]);
+    steps
+}
+
+/// Twelve bits of every kind and some idle mark, in blocks.
+fn in_blocks(rate: u32, block: u64) -> Vec<[u64; STEP]> {
+    let blocks = u64::from(rate) * 16 / 300 / block + 1;
+    let mut steps = vec![[IDLE_MARK, 2], [WRITE, 1]];
+    steps.extend(vec![[READ, block]; blocks.min(40) as usize]);
+    steps.push([READ, 4]);
+    steps
+}
+
+/// Each limit, reached and passed; what is refused leaves all as it was.
+fn refused_steps() -> Vec<[u64; STEP]> {
     vec![
+        [WRITE, 410],
+        [IDLE_MARK, 4_097],
+        [READ, 3],
         [IDLE_MARK, 4_086],
         [WRITE, 1],
         [WRITE, 1],
-        [IDLE_MARK, 1],
-        [IDLE_MARK, u32::MAX],
-        [READ, 1_025],
-        [AMPLITUDE, f32::NAN.to_bits()],
-        [AMPLITUDE, 1.0f32.to_bits() + 1],
-        [AMPLITUDE, (-0.25f32).to_bits()],
-        [AMPLITUDE, 0.5f32.to_bits()],
-        [SAMPLES_FOR_BITS, 1_048_577],
-        [READ, 30],
         [WRITE, 0],
+        [IDLE_MARK, 1],
+        [IDLE_MARK, 0],
+        [IDLE_MARK, u64::from(u32::MAX)],
+        [IDLE_MARK, 1 << 40],
+        [READ, 1_025],
+        [AMPLITUDE, bits_of(f32::NAN)],
+        [AMPLITUDE, bits_of(1.0) + 1],
+        [AMPLITUDE, bits_of(-0.25)],
+        [AMPLITUDE, bits_of(f32::INFINITY)],
+        [READ, 2],
+        [AMPLITUDE, bits_of(1.0)],
+        [AMPLITUDE, bits_of(0.0)],
+        [READ, 2],
+        [AMPLITUDE, bits_of(-0.0)],
+        [READ, 2],
+        [AMPLITUDE, bits_of(0.5)],
+        [READ, 1_024],
+        [WRITE, 2],
+        [WRITE, 1],
+        [IDLE_MARK, 9],
+        [IDLE_MARK, 8],
+        [READ, 30],
     ]
 }

@@ -95,21 +95,21 @@ unsafe extern "C" fn morkhetta_receiver_state(
 unsafe extern "C" fn morkhetta_send(
     rate: u32,
     role: u32,
-    script: *const u32,
-    script_len: usize,
     data: *const u8,
     data_len: usize,
-    output: *mut f32,
-    output_len: usize,
+    script: *const u64,
+    script_len: usize,
+    samples: *mut f32,
+    samples_len: usize,
     answers: *mut u64,
     answers_len: usize,
 ) -> usize {
     oracle::send(
         rate,
         role,
-        from_raw_parts(script, script_len),
         from_raw_parts(data, data_len),
-        from_raw_parts_mut(output, output_len),
+        from_raw_parts(script, script_len),
+        from_raw_parts_mut(samples, samples_len),
         from_raw_parts_mut(answers, answers_len),
     )
 }

@@ -11,11 +11,14 @@ use lib.Seq.{append-snoc, drop-cons, drop-drop, getD-drop, length-take-le, set-a
 use lib.Ieee.{Float}
 use Rattle.refusal.specs.Refusals.{Reply, given, refused, rateRefused}
 use Rattle.demodulation.specs.Demod.{eventsOf}
-use Rattle.modem.specs.QueueLaws.{noted-length}
-use Rattle.modem.specs.Rx.{Receiver, freshReceiver, Made, made, newOf, wrote, written, ReadOut, readOut, readOf, Taken, taken, eventOf, carrierOf, errorsOf}
+use Rattle.modem.specs.Queue.{noted, EventsHeld, EventsWait, Pops, Drains}
+use Rattle.modem.specs.Rx.{Receiver, freshReceiver, Made, made, newOf, wrote, written, ReadOut, readOut, readOf, carrierOf, errorsOf}
 use Rattle.modem.specs.RxHeld.{receiverOf, RxSound}
 use Rattle.bell103.specs.declared.Role.{Role}
-use Rattle.demodulation.specs.declared.demod.Event.{Event}
+use Rattle.modem.specs.declared.queue.Bytes.{Bytes}
+use Rattle.modem.specs.declared.queue.Drained.{Drained}
+use Rattle.modem.specs.declared.queue.Events.{Events}
+use Rattle.modem.specs.declared.queue.NextEvent.{NextEvent}
 use Rattle.modem.specs.declared.rx.Rx.{Rx}
 use Rattle.calls.specs.ReceiveLaws.{callIn}
 use Rattle.numeric.specs.Parts.{take-min, drop-min, part-next, part-left, put-front, put-behind, put-within}
@@ -32,57 +35,40 @@ bits-snoc : (es : List Bool) (e : Bool) → map bit (es ++ (e ∷ [])) ≡ map b
 bits-snoc [] e = refl
 bits-snoc (x ∷ es) e = ap (λ (l : List ℕ). bit x ∷ l) (bits-snoc es e)
 
--- as many wait as the code counts
-pub noted-count : (r : Rx) → RxSound r → length (receiverOf r .noted) ≡ r .events .count
-unfolding receiverOf
-noted-count r s = noted-length (r .events) (s .events)
-
--- `events` after i of them were taken
-event-next : (r : Receiver) (i : ℕ) → eventOf (relieved 0 i r) ≡ taken (take 1 (drop i (r .noted))) (relieved 0 (i + 1) r)
-unfolding eventOf
-event-next r i = rw (drop-drop 1 i (r .noted))
-
 -- i events are in the buffer
-pub record Taking (r : Receiver) (buf : List ℕ) (i : ℕ) (s : Rx) (buf′ : List ℕ) : Type 0 where
-  pub buffer : buf′ ≡ map bit (take i (r .noted)) ++ drop i buf
-  pub state : receiverOf s ≡ relieved 0 i r
-  pub sound : RxSound s
+pub record Taking (es : List Bool) (buf : List ℕ) (i : ℕ) (q : Events) (buf′ : List ℕ) : Type 0 where
+  pub buffer : buf′ ≡ map bit (take i es) ++ drop i buf
+  pub rest : EventsWait q (drop i es)
 
-pub taking-start : (s : Rx) (buf : List ℕ) → RxSound s → Taking (receiverOf s) buf 0 s buf
-taking-start s buf h = record { buffer = refl; state = refl; sound = h }
+pub taking-start : (q : Events) (buf : List ℕ) → EventsHeld q → Taking (noted q) buf 0 q buf
+taking-start q buf h = record { buffer = refl; rest = record { waits = refl; sound = h } }
 
-module _ (r : Receiver) (buf : List ℕ) (i : ℕ) (s : Rx) (buf′ : List ℕ) (t : Taking r buf i s buf′) where
+module _ (es : List Bool) (buf : List ℕ) (i : ℕ) (q : Events) (buf′ : List ℕ) (t : Taking es buf i q buf′) where
   -- one more
-  module _ (room : i < length buf) (waits : i < length (r .noted)) (s′ : Rx) (e : Event) (b : ℕ)
-      (gave : taken (eventsOf e) (receiverOf s′) ≡ eventOf (receiverOf s)) (is : b ≡ bitIn (eventsOf e)) where
-    gives : taken (eventsOf e) (receiverOf s′) ≡ taken (take 1 (drop i (r .noted))) (relieved 0 (i + 1) r)
-    gives = gave ∙ ap eventOf (t .state) ∙ event-next r i
-
-    byte : b ≡ bit (getD (r .noted) i false)
+  module _ (room : i < length buf) (waits : i < length es) (r : NextEvent) (b : ℕ) (gave : Pops q r) (is : b ≡ bitIn (eventsOf (r .event))) where
+    byte : b ≡ bit (getD es i false)
     byte =
-        let one : take 1 (drop i (r .noted)) ≡ getD (r .noted) i false ∷ [] = rw (drop-cons (r .noted) i false waits) in
-        is ∙ ap bitIn (ap (λ (k : Taken). k .event) gives ∙ one)
+        let one : take 1 (drop i es) ≡ getD es i false ∷ [] = rw (drop-cons es i false waits) in
+        is ∙ ap bitIn (gave .oldest ∙ ap (take 1) (t .rest .waits) ∙ one)
 
-    written-byte : set buf′ i b ≡ map bit (take (i + 1) (r .noted)) ++ drop (i + 1) buf
+    written-byte : set buf′ i b ≡ map bit (take (i + 1) es) ++ drop (i + 1) buf
     written-byte =
-        let front : length (map bit (take i (r .noted))) ≡ i = length-map (take i (r .noted)) bit ∙ length-take-le i (r .noted) (omega arith) in
-        rw (t .buffer, byte, add-one i, take-suc (r .noted) i false waits, bits-snoc (take i (r .noted)), append-snoc, drop-cons buf i 0 room)
-        (set-at (map bit (take i (r .noted))) (getD buf i 0) (drop (suc i) buf) (bit (getD (r .noted) i false)) i front)
+        let front : length (map bit (take i es)) ≡ i = length-map (take i es) bit ∙ length-take-le i es (omega arith) in
+        rw (t .buffer, byte, add-one i, take-suc es i false waits, bits-snoc (take i es), append-snoc, drop-cons buf i 0 room)
+        (set-at (map bit (take i es)) (getD buf i 0) (drop (suc i) buf) (bit (getD es i false)) i front)
 
-    pub taking-step : RxSound s′ → Taking r buf (i + 1) s′ (set buf′ i b)
-    taking-step h = record { buffer = written-byte; state = ap (λ (k : Taken). k .state) gives; sound = h }
+    pub taking-step : Taking es buf (i + 1) (r .state) (set buf′ i b)
+    taking-step = record { buffer = written-byte; rest = record { waits = gave .rest .waits ∙ ap (drop 1) (t .rest .waits) ∙ drop-drop 1 i es; sound = gave .rest .sound } }
 
 -- all that wait and have room
-pub taking-end : (rx : Rx) (buf : List ℕ) (i : ℕ) (s : Rx) (buf′ : List ℕ) → i ≡ min (length buf) (length (receiverOf rx .noted)) → Taking (receiverOf rx) buf i s buf′ → Takes rx buf i s buf′
-taking-end rx buf i s buf′ is t =
-    let r = receiverOf rx in
-    let given : take i (r .noted) ≡ take (length buf) (r .noted) = rw (is, take-min (length buf) (r .noted)) in
-    let left : drop i (r .noted) ≡ drop (length buf) (r .noted) = rw (is, drop-min (length buf) (r .noted)) in
+pub taking-end : (q : Events) (buf : List ℕ) (i : ℕ) (q′ : Events) (buf′ : List ℕ) → i ≡ min (length buf) (length (noted q)) → Taking (noted q) buf i q′ buf′ → Takes q buf i q′ buf′
+taking-end q buf i q′ buf′ is t =
+    let given : take i (noted q) ≡ take (length buf) (noted q) = rw (is, take-min (length buf) (noted q)) in
+    let left : drop i (noted q) ≡ drop (length buf) (noted q) = rw (is, drop-min (length buf) (noted q)) in
     record {
-      count = is ∙ sym (length-take (length buf) (r .noted));
+      count = is ∙ sym (length-take (length buf) (noted q));
       buffer = rw (← given) (t .buffer);
-      state = rw (← left) (t .state);
-      sound = t .sound;
+      rest = rw (← left) (t .rest);
     }
 
 -- ---- one call
@@ -92,46 +78,47 @@ read-is : (r : Receiver) (bs : List ℕ)
 unfolding readOf
 read-is r bs = rw (min-comm (length (r .waiting)) (length bs), length-take (length bs) (r .waiting), take-min (length bs) (r .waiting), drop-min (length bs) (r .waiting))
 
+-- the receiver with other queues
+abbrev pub requeued : Rx → Bytes → Events → Rx
+requeued s out events = record { resampler = s .resampler; demod = s .demod; out = out; events = events; accepted = s .accepted }
+
 module _ (rx : Rx) (xs : List Float) (bs es : List ℕ)
-    (a : Reply Unit) (s1 : Rx) (wrote-is : wrote a (receiverOf s1) ≡ written (receiverOf rx) xs)
-    (n : ℕ) (s2 : Rx) (bs′ : List ℕ) (read-was : readOut n (receiverOf s2) bs′ ≡ readOf (receiverOf s1) bs)
-    (m : ℕ) (s3 : Rx) (es′ : List ℕ) (takes : Takes s2 es m s3 es′) where
+    (a : Reply Unit) (s : Rx) (wrote-is : wrote a (receiverOf s) ≡ written (receiverOf rx) xs) (sound : RxSound s)
+    (d : Drained) (bs′ : List ℕ) (drains : Drains (s .out) bs d bs′)
+    (m : ℕ) (q : Events) (es′ : List ℕ) (takes : Takes (s .events) es m q es′) where
   abbrev gives-call : Called
   gives-call = called (receiverOf rx) xs (length bs) (length es)
 
   -- the call from what the write left
   abbrev behind : Called
-  behind = record { number = numberIn a; bytes = take (length bs) (receiverOf s1 .waiting); events = take (length es) (receiverOf s1 .noted); state = relieved (length bs) (length es) (receiverOf s1) }
+  behind = record { number = numberIn a; bytes = take (length bs) (receiverOf s .waiting); events = take (length es) (receiverOf s .noted); state = relieved (length bs) (length es) (receiverOf s) }
 
   behind-is : gives-call ≡ behind
   unfolding called
   behind-is = rw (← wrote-is)
 
-  read-now : readOut n (receiverOf s2) bs′ ≡ readOut (length (behind .bytes)) (relieved (length bs) 0 (receiverOf s1)) (behind .bytes ++ drop (length (behind .bytes)) bs)
-  read-now = read-was ∙ read-is (receiverOf s1) bs
+  read-was : readOut (d .count) (receiverOf (requeued s (d .state) (s .events))) bs′ ≡ readOf (receiverOf s) bs
+  unfolding receiverOf readOf
+  read-was = rw (drains .count, drains .buffer, drains .rest .waits)
 
-  read-state : receiverOf s2 ≡ relieved (length bs) 0 (receiverOf s1)
-  read-state = ap (λ (r : ReadOut). r .state) read-now
+  read-now : readOut (d .count) (receiverOf (requeued s (d .state) (s .events))) bs′ ≡ readOut (length (behind .bytes)) (relieved (length bs) 0 (receiverOf s)) (behind .bytes ++ drop (length (behind .bytes)) bs)
+  read-now = read-was ∙ read-is (receiverOf s) bs
 
-  left-is : receiverOf s3 ≡ behind .state
-  left-is = takes .state ∙ ap (λ (r : Receiver). relieved 0 (length es) r) read-state
+  left-is : receiverOf (requeued s (d .state) q) ≡ behind .state
+  unfolding receiverOf
+  left-is = rw (takes .rest .waits) (ap (λ (r : ReadOut). relieved 0 (length es) (r .state)) read-now)
 
-  events-is : take (length es) (receiverOf s2 .noted) ≡ behind .events
-  events-is = ap (λ (r : Receiver). take (length es) (r .noted)) read-state
-
-  count-is : m ≡ length (behind .events)
-  count-is = takes .count ∙ ap length events-is
-
-  pub calls-is : (h : Heard) → h .number ≡ numberIn a → h .bytes ≡ n → h .events ≡ m → h .carrier ≡ bit (carrierOf (receiverOf s3)) → h .errors ≡ errorsOf (receiverOf s3)
-      → Calls gives-call bs es h s3 bs′ es′
+  pub calls-is : (h : Heard) → h .number ≡ numberIn a → h .bytes ≡ d .count → h .events ≡ m → h .carrier ≡ bit (carrierOf (receiverOf (requeued s (d .state) q))) → h .errors ≡ errorsOf (receiverOf (requeued s (d .state) q))
+      → Calls gives-call bs es h (requeued s (d .state) q) bs′ es′
+  unfolding receiverOf
   calls-is h e1 e2 e3 e4 e5 =
       rw behind-is
       (record {
-        told = rw (e1, e2, e3, e4, e5, left-is, ap (λ (r : ReadOut). r .count) read-now, count-is);
+        told = rw (e1, e2, e3, e4, e5, ap (λ (r : ReadOut). r .count) read-now, takes .count);
         state = left-is;
         bytes = ap (λ (r : ReadOut). r .buf) read-now;
-        events = rw (← count-is, ← events-is) (takes .buffer);
-        sound = takes .sound;
+        events = rw (← takes .count) (takes .buffer);
+        sound = record { resampler = sound .resampler; to-8000 = sound .to-8000; tuned = sound .tuned; bytes = drains .rest .sound; events = takes .rest .sound; count = sound .count };
       })
 
 -- ---- one call in the code: it lends the samples from p up to e, and bytes and events up to f and g; the call c of the definitions is run on these

@@ -6,8 +6,10 @@ use mathlib.Core.List.{List, [], _∷_, _++_, map}
 use lib.ListN.{length, take, drop}
 use lib.Ieee.{Float}
 use Rattle.modem.specs.RxHeld.{receiverOf, RxSound}
+use Rattle.modem.specs.Queue.{noted, EventsWait}
+use Rattle.modem.specs.declared.queue.Events.{Events}
 use Rattle.modem.specs.declared.rx.Rx.{Rx}
-use Rattle.calls.specs.Receive.{Called, called, relieved, bit, toldCall}
+use Rattle.calls.specs.Receive.{Called, called, bit, toldCall}
 use Rattle.calls.specs.declared.answers.Heard.{Heard}
 use Rattle.calls.specs.declared.receive.Call.{Call}
 use Rattle.calls.specs.declared.receive.Place.{Place}
@@ -17,12 +19,11 @@ abbrev pub bitIn : List Bool → ℕ
 bitIn [] = 0
 bitIn (e ∷ es) = bit e
 
--- events taken into a whole buffer: how many, the buffer, and the receiver afterwards
-pub record Takes (r : Rx) (buf : List ℕ) (n : ℕ) (s : Rx) (buf′ : List ℕ) : Type 0 where
-  pub count : n ≡ length (take (length buf) (receiverOf r .noted))
-  pub buffer : buf′ ≡ map bit (take (length buf) (receiverOf r .noted)) ++ drop n buf
-  pub state : receiverOf s ≡ relieved 0 (length buf) (receiverOf r)
-  pub sound : RxSound s
+-- events taken off a queue into a whole buffer: how many, the buffer, and the queue afterwards
+pub record Takes (q : Events) (buf : List ℕ) (n : ℕ) (q′ : Events) (buf′ : List ℕ) : Type 0 where
+  pub count : n ≡ length (take (length buf) (noted q))
+  pub buffer : buf′ ≡ map bit (take (length buf) (noted q)) ++ drop n buf
+  pub rest : EventsWait q′ (drop (length buf) (noted q))
 
 -- the five numbers that the code holds
 abbrev pub heardOf : Heard → List ℕ

@@ -7,12 +7,14 @@ use crate::ends::part_end;
 use crate::ends::smaller;
 use bell103::Role;
 use demodulation::demod::Event;
+use modem::queue::Events;
 use modem::rx::Rx;
 use refusal::Acceptance;
 ghost use mathlib.Core.Path.{_≡_};
 ghost use Prim.Native.Nat.{_+_, _*_, _≤_};
 ghost use lib.ListN.{length, take, drop};
 ghost use Rattle.demodulation.specs.Demod.{eventsOf};
+ghost use Rattle.modem.specs.Queue.{EventsHeld};
 ghost use Rattle.modem.specs.RxHeld.{receiverOf, RxSound};
 ghost use Rattle.calls.specs.Receive.{called, callsFor, ran, receivedFrom, receiveRun, roleOf};
 ghost use Rattle.calls.specs.ReceiveSteps.{bitIn, Takes, Calls, Within, Stepped};
@@ -28,29 +30,28 @@ fn event_byte(e: Event) -> u8
     }
 }
 
-// How many events were taken, and the receiver.
+// How many events were taken, and the queue.
 pub struct TakenEvents {
     pub count: usize,
-    pub state: Rx,
+    pub queue: Events,
 }
 
-// As many events as wait and have room in buf, oldest first.
-fn take_events(rx: Rx, buf: &mut [u8]) -> TakenEvents
-    requires { ⌜ RxSound rx ⌝ }
-    ensures { λ r. ⌜ Takes rx (now (buf .entry)) (r .count) (r .state) (now (buf .exit)) ⌝ }
+// As many events as wait and have room in buf, oldest first. The queue is taken alone, since the receiver is large.
+fn take_events(q: Events, buf: &mut [u8]) -> TakenEvents
+    requires { ⌜ EventsHeld q ⌝ }
+    ensures { λ r. ⌜ Takes q (now (buf .entry)) (r .count) (r .queue) (now (buf .exit)) ⌝ }
 {
-    let waiting = rx.events;
-    let count = smaller(buf.len(), waiting.count);
-    let mut state = rx;
+    let count = smaller(buf.len(), q.count);
+    let mut queue = q;
     let mut i = 0;
     while i < count {
-        let t = state.events();
+        let t = queue.next();
         let event = t.event;
         buf[i] = event_byte(event);
-        state = t.state;
+        queue = t.state;
         i += 1;
     }
-    TakenEvents { count, state }
+    TakenEvents { count, queue }
 }
 
 // A call's answer, and the receiver.
@@ -65,15 +66,19 @@ pub fn make_call(rx: Rx, samples: &[f32], bytes: &mut [u8], events: &mut [u8]) -
     ensures { λ r. ⌜ Calls (called (receiverOf rx) (now (samples .entry)) (length (now (bytes .entry))) (length (now (events .entry)))) (now (bytes .entry)) (now (events .entry)) (r .answer) (r .state) (now (bytes .exit)) (now (events .exit)) ⌝ }
 {
     let w = rx.write(samples);
-    let written = w.state;
     let refusal = w.answer;
-    let r = written.read(bytes);
-    let heard = r.state;
-    let t = take_events(heard, events);
-    let state = t.state;
+    let mut state = w.state;
+    let waiting = state.out;
+    let noted = state.events;
+    let d = waiting.drain(bytes);
+    let t = take_events(noted, events);
+    let out = d.state;
+    let queue = t.queue;
+    state.out = out;
+    state.events = queue;
     let answer = Heard {
         number: number_in(refusal),
-        bytes: r.count,
+        bytes: d.count,
         events: t.count,
         carrier: one_if(state.carrier_detected()),
         errors: state.framing_errors(),

@@ -3,3 +3,4 @@ pub mod Demod
 pub mod DemodLaws
 pub mod Summing
 pub mod SummingLaws
+pub mod Waves

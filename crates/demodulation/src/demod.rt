@@ -1,4 +1,5 @@
 // The 8,000 Hz part of the receiver: what one sample makes of its state, and what is heard in it.
+use crate::waves::waves;
 use bell103::Role;
 use bell103::nco::turn;
 use bell103::samples_per_symbol;
@@ -12,14 +13,11 @@ use framing::frame::Pushed;
 use numeric::compare::absolute;
 use numeric::root::roots;
 use numeric::sine::TAU;
-use numeric::sine::cosine;
-use numeric::sine::sine;
 use refusal::DSP_RATE;
 ghost use mathlib.Core.Path.{_≡_};
 ghost use Prim.Native.Nat.{_<_, _≤_};
 ghost use lib.ListN.{set};
 ghost use Rattle.numeric.specs.F64.{_⊗_};
-ghost use Rattle.numeric.specs.Sine.{sineOf, cosineOf};
 ghost use Rattle.demodulation.specs.Demod.{decisionOf, advanced, freshCorrelator, errorOf, movedBy, crossed, bounded, ticked, freshTiming};
 ghost use Rattle.demodulation.specs.Demod.{gateAfter, latched, eventOf, sliced, ringsOf, demodulator, fedCore, finished, stepWith, stepOf, freshDemodulator, reported, Tuned};
 ghost use Rattle.demodulation.specs.Summing.{Summed, noSums, withPlace, nextPlace};
@@ -49,13 +47,13 @@ pub struct Correlator {
     pub inc_s: f64,
 }
 
-// The products of one sample with one tone.
-fn multiply(i: &mut [f64; 27], q: &mut [f64; 27], pos: usize, phase: f64, s: f64)
+// The products of one sample with one tone, of which these are cosine and sine.
+fn multiply(i: &mut [f64; 27], q: &mut [f64; 27], pos: usize, cosine: f64, sine: f64, s: f64)
     requires { ⌜ pos < 27 ⌝ }
-    ensures { λ _. ⌜ (now (i .exit) ≡ set (now (i .entry)) pos (s ⊗ cosineOf phase)) × (now (q .exit) ≡ set (now (q .entry)) pos (s ⊗ sineOf phase)) ⌝ }
+    ensures { λ _. ⌜ (now (i .exit) ≡ set (now (i .entry)) pos (s ⊗ cosine)) × (now (q .exit) ≡ set (now (q .entry)) pos (s ⊗ sine)) ⌝ }
 {
-    i[pos] = s * cosine(phase);
-    q[pos] = s * sine(phase);
+    i[pos] = s * cosine;
+    q[pos] = s * sine;
 }
 
 // The rings' sums over their first places, in place order; over all places they are the matched filter.
@@ -361,10 +359,10 @@ fn slice(deframer: Deframer, boundary: bool, detected: bool, soft: f64) -> Pushe
 pub struct Core {
     pub corr: Correlator,
     pub dominance: ToneDominance,
-    pub gate_open: bool,
     pub carrier: CarrierDetector,
-    pub latch: Latch,
     pub timing: Timing,
+    pub gate_open: bool,
+    pub latch: Latch,
     pub deframer: Deframer,
 }
 
@@ -380,6 +378,8 @@ pub struct Demodulator {
     pub core: Core,
 }
 
+// Its parts are stored field by field: a part stored whole takes the gap behind its flag along, and the next sample's load of that gap would
+// wait for the store.
 impl Core {
     // Phases, ring place; dominance.
     fn feed(mut self, s: f64) -> Core
@@ -392,7 +392,12 @@ impl Core {
         let judged = dominance.feed(s);
         let state = judged.state;
         let verdict = judged.verdict;
-        self.corr = advanced;
+        self.corr.pos = advanced.pos;
+        self.corr.filled = advanced.filled;
+        self.corr.phase_m = advanced.phase_m;
+        self.corr.phase_s = advanced.phase_s;
+        self.corr.inc_m = advanced.inc_m;
+        self.corr.inc_s = advanced.inc_s;
         self.dominance = state;
         self.gate_open = gate_after(self.gate_open, verdict);
         self
@@ -412,7 +417,11 @@ impl Core {
         let heard = pushed.heard;
         self.carrier = carrier;
         self.latch = latch;
-        self.timing = ticked;
+        self.timing.sym_phase = ticked.sym_phase;
+        self.timing.sym_inc = ticked.sym_inc;
+        self.timing.last_sym = ticked.last_sym;
+        self.timing.mid_sym = ticked.mid_sym;
+        self.timing.have_mid = ticked.have_mid;
         self.deframer = framed;
         CoreStep {
             core: self,
@@ -436,8 +445,9 @@ impl Core {
             ≡ stepOf (demodulator (ringsOf (now («mark_i» .entry)) (now («mark_q» .entry)) (now («space_i» .entry)) (now («space_q» .entry))) self) s ⌝ }
     {
         let corr = self.corr;
-        multiply(mark_i, mark_q, corr.pos, corr.phase_m, s);
-        multiply(space_i, space_q, corr.pos, corr.phase_s, s);
+        let w = waves(corr.phase_m, corr.phase_s);
+        multiply(mark_i, mark_q, corr.pos, w.mark_i, w.mark_q, s);
+        multiply(space_i, space_q, corr.pos, w.space_i, w.space_q, s);
         let fed = self.feed(s);
         if !fed.corr.filled {
             return CoreStep {

@@ -1,2 +1,3 @@
 // From samples at 8,000 to bytes and carrier events, one sample at a time.
 pub mod demod;
+mod waves;

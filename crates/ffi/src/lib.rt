@@ -3,3 +3,4 @@
 pub mod listen;
 pub mod receive;
 pub mod resample;
+pub mod send;

@@ -35,6 +35,16 @@ pub record Sent : Type 0 where
 abbrev pub marks : ℕ → List Bool
 marks n = replicate n mark
 
+-- the frames of these bytes, in order
+unfoldable pub framesOf : List ℕ → List Bool
+framesOf [] = []
+framesOf (b ∷ bs) = frameOf b ++ framesOf bs
+
+pub frames-length : (bs : List ℕ) → length (framesOf bs) ≡ 10 * length bs
+unfolding framesOf
+frames-length [] = refl
+frames-length (b ∷ bs) = rw (length-append (frameOf b) (framesOf bs)) (omega (arith, frames-length bs))
+
 -- the bits on the line: each byte's frame behind its marks, and so many marks at the end
 abbrev pub line : List Sent → ℕ → List Bool
 line [] end = marks end
@@ -56,7 +66,8 @@ pub record HeardAs (d : Deframer) (bits : List Bool) (bytes : List ℕ) : Type 0
   pub no-error : after d bits .errors ≡ d .errors
   pub idle : Idle (after d bits)
 
-joined : (d : Deframer) (xs ys : List Bool) (bs cs : List ℕ) → HeardAs d xs bs → HeardAs (after d xs) ys cs → HeardAs d (xs ++ ys) (bs ++ cs)
+-- one list of bits after another
+pub joined : (d : Deframer) (xs ys : List Bool) (bs cs : List ℕ) → HeardAs d xs bs → HeardAs (after d xs) ys cs → HeardAs d (xs ++ ys) (bs ++ cs)
 joined d xs ys bs cs x y =
     record {
       same = heard-append d xs ys ∙ rw (x .same, y .same);
@@ -93,6 +104,13 @@ frame-is n a e b h = record { same = ap (λ (x : ℕ). x ∷ []) (frame-held n a
 
 pub frame-heard : (d : Deframer) → Idle d → (b : ℕ) → b < 256 → HeardAs d (frameOf b) (b ∷ [])
 frame-heard d p b h = rw (idle-is d p) (frame-is (d .«bit_count») (d .acc) (d .errors) b h)
+
+pub frames-heard : (d : Deframer) → Idle d → (bs : List ℕ) → AreBytes bs → HeardAs d (framesOf bs) bs
+unfolding framesOf heard after
+frames-heard d p [] _ = record { same = refl; no-error = refl; idle = p }
+frames-heard d p (b ∷ bs) h =
+    let f = frame-heard d p b (h .0) in
+    joined d (frameOf b) (framesOf bs) (b ∷ []) bs f (frames-heard (after d (frameOf b)) (f .idle) bs (h .1))
 
 -- all bytes come back, the same and in order, whatever marks stand before, between and after them
 pub framed-heard : (d : Deframer) → Idle d → (ss : List Sent) (end : ℕ) → AreBytes (bytesSent ss) → HeardAs d (line ss end) (bytesSent ss)

@@ -152,3 +152,12 @@ fn one_more(errors: u32) -> u32
         MOST_ERRORS
     }
 }
+
+// The step through a lent reference, as the Rust has it: thin, over the step by value.
+pub fn push_bit(d: &mut Deframer, mark: bool) -> Heard
+    ensures { λ r. ⌜ (r ≡ pushBit (now (d .entry)) mark .heard) × (now (d .exit) ≡ pushBit (now (d .entry)) mark .state) ⌝ }
+{
+    let p = Deframer::push_bit(*d, mark);
+    *d = p.state;
+    p.heard
+}

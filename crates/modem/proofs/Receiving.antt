@@ -10,8 +10,8 @@ use lib.ListN.{length, take, drop, length-append, length-drop}
 use lib.Seq.{take-append-seam, length-take-le}
 use lib.Ieee.{Float}
 use Rattle.refusal.specs.Refusals.{Reply, given, refused, countOf, countIn, acceptanceOf, isAccepted, replyOf, first, rateRefused, ratesRefused}
-use Rattle.resampling.specs.Resample.{State, Ran, Made, made, newOf, fresh, state, outcome, Outcome, lenOf, tooMany, maxOutputLen, processed, laid}
-use Rattle.resampling.specs.ResampleLaws.{accepted, ran-few, output-few}
+use Rattle.resampling.specs.Resample.{State, Ran, ran, Made, made, newOf, fresh, state, outcome, Outcome, lenOf, tooMany, maxOutputLen, processed, laid}
+use Rattle.resampling.specs.ResampleLaws.{accepted, equal-rates, ran-few, output-few}
 use Rattle.resampling.specs.ResampleHeld.{stateOf, Sound}
 use Rattle.modem.specs.Rx.{resampled, Receiver, refusedBy, refusalOf, acceptedBy, wrote, written, unlessRefused}
 use Rattle.modem.specs.Samples.{allInRange}
@@ -106,6 +106,11 @@ pub fits-scratch : (b r : Resampler) (xs : List Float) (n : ℕ) (out : List Flo
     → n ≤ length out
 unfolding stateOf resampled
 fits-scratch b r xs n out p l e h = omega (arith, p .count, p .places, ran-few (stateOf b) xs, room-few (stateOf b) (length xs) h l e)
+
+-- at equal rates they are the call's own, and the resampler stays as it is
+pub plain : (r : Resampler) (xs : List Float) → Sound r → r .identity ≡ true → resampled (stateOf r) xs ≡ ran xs (stateOf r .flow)
+unfolding resampled stateOf
+plain r xs s e = equal-rates (stateOf r) _ xs (sym (s .identity) ∙ e)
 
 -- ---- a write that no check refuses
 pub record Passes (xs : List Float) (n waiting : ℕ) : Type 0 where

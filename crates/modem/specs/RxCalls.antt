@@ -73,8 +73,11 @@ number-some refusal.Station e = omega arith
 number-some refusal.TooManySamples e = omega arith
 number-some refusal.BadSample e = omega arith
 number-some refusal.OutputTooShort e = omega arith
+number-some refusal.Amplitude e = omega arith
+number-some refusal.TooManyBits e = omega arith
 number-some refusal.OutOfSamples e = omega arith
 number-some refusal.BytesWait e = omega arith
+number-some refusal.BitsWait e = omega arith
 
 -- accepted: no check applied, and the bytes heard joined those that waited
 pub record Accepts (r : Receiver) (xs : List Float) (after : Receiver) : Type 0 where

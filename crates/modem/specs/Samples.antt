@@ -11,8 +11,8 @@ unfoldable pub allInRange : List Float → Bool
 allInRange [] = true
 allInRange (x ∷ xs) = inRange x && allInRange xs
 
--- the samples stand at the front of 1,024 places, the rest of which is as it was
+-- the samples stand at the front of an array, the rest of which is as it was
 pub record Widened (samples before after : List Float) : Type 0 where
   pub front : take (length samples) after ≡ samples
   pub rest : drop (length samples) after ≡ drop (length samples) before
-  pub places : length after ≡ 1024
+  pub places : length after ≡ length before

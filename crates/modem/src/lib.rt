@@ -1,4 +1,4 @@
 // The receiver: samples in, and bytes and carrier events out.
-mod queue;
+pub mod queue;
 pub mod rx;
 mod samples;

@@ -20,7 +20,7 @@ use resampling::resample::Resampler;
 ghost use mathlib.Core.Path.{_≡_};
 ghost use Prim.Native.Nat.{_+_, _≤_};
 ghost use lib.ListN.{length};
-ghost use mathlib.Core.Bool.{false};
+ghost use mathlib.Core.Bool.{true, false};
 ghost use Rattle.refusal.specs.Refusals.{acceptanceOf, isAccepted, countIn, replyOf, rateRefused};
 ghost use Rattle.resampling.specs.ResampleHeld.{Sound};
 ghost use Rattle.demodulation.specs.Demod.{eventsOf};
@@ -88,6 +88,10 @@ fn is_accepted(a: Acceptance) -> bool
         Acceptance::Accepted => true,
         Acceptance::Refused(_) => false,
     }
+}
+
+fn zeros_256() -> [f64; 256] {
+    [0.0f64; 256]
 }
 
 fn zeros_1024() -> [f64; 1024] {
@@ -184,8 +188,67 @@ fn hear(d: Demodulator, samples: &[f64], held: &mut [u8; 512], from: usize, ev: 
     }
 }
 
-// The state after a write that no check refused.
-fn accept(rx: Rx, samples: &[f32]) -> Rx
+// Hears a call's samples as they come, where they are at 8,000 Hz, from a scratch that has room for them.
+fn hear_from(
+    d: Demodulator,
+    samples: &[f32],
+    in64: &mut [f64],
+    held: &mut [u8; 512],
+    from: usize,
+    ev: Events,
+) -> HeardAll
+    requires { ⌜ Hearable d (now samples) (now held) from ev × (length (now samples) ≤ length (now in64)) ⌝ }
+    ensures { λ r. ⌜ HearsInto d (now (samples .entry)) from (now (held .entry)) ev (r .demod) (r .count) (now (held .exit)) (r .events) ⌝ }
+{
+    widen_into(samples, in64);
+    let n = samples.len();
+    hear(d, &in64[..n], held, from, ev)
+}
+
+// The same, with a scratch of its own. A short call has no need to clear a long one.
+fn hear_plain(
+    d: Demodulator,
+    samples: &[f32],
+    held: &mut [u8; 512],
+    from: usize,
+    ev: Events,
+) -> HeardAll
+    requires { ⌜ Hearable d (now samples) (now held) from ev × (length (now samples) ≤ 1024) ⌝ }
+    ensures { λ r. ⌜ HearsInto d (now (samples .entry)) from (now (held .entry)) ev (r .demod) (r .count) (now (held .exit)) (r .events) ⌝ }
+{
+    if samples.len() <= 256 {
+        let mut short = zeros_256();
+        return hear_from(d, samples, &mut short, held, from, ev);
+    }
+    let mut in64 = zeros_1024();
+    hear_from(d, samples, &mut in64, held, from, ev)
+}
+
+// The state after a write that no check refused, at 8,000 Hz. The resampler would copy, so it is left alone.
+fn accept_plain(mut rx: Rx, samples: &[f32]) -> Rx
+    requires { ⌜ RxSound rx × (refusedBy (now samples) (rx .accepted) (rx .out .count) ≡ 0) × (rx .resampler .identity ≡ true) ⌝ }
+    ensures { λ r. ⌜ (receiverOf r ≡ acceptedBy (receiverOf rx) (now (samples .entry))) × RxSound r ⌝ }
+{
+    let demod0 = rx.demod;
+    let out0 = rx.out;
+    let events0 = rx.events;
+    let mut held = out0.held;
+    let h = hear_plain(demod0, samples, &mut held, out0.count, events0);
+    let demod = h.demod;
+    let events = h.events;
+    let out = Bytes {
+        held,
+        count: h.count,
+    };
+    rx.demod = demod;
+    rx.out = out;
+    rx.events = events;
+    rx.accepted += samples.len() as u64;
+    rx
+}
+
+// The same, at another rate.
+fn accept_resampled(rx: Rx, samples: &[f32]) -> Rx
     requires { ⌜ RxSound rx × (refusedBy (now samples) (rx .accepted) (rx .out .count) ≡ 0) ⌝ }
     ensures { λ r. ⌜ (receiverOf r ≡ acceptedBy (receiverOf rx) (now (samples .entry))) × RxSound r ⌝ }
 {
@@ -212,6 +275,17 @@ fn accept(rx: Rx, samples: &[f32]) -> Rx
         events,
         accepted: rx.accepted + samples.len() as u64,
     }
+}
+
+// The state after a write that no check refused.
+fn accept(rx: Rx, samples: &[f32]) -> Rx
+    requires { ⌜ RxSound rx × (refusedBy (now samples) (rx .accepted) (rx .out .count) ≡ 0) ⌝ }
+    ensures { λ r. ⌜ (receiverOf r ≡ acceptedBy (receiverOf rx) (now (samples .entry))) × RxSound r ⌝ }
+{
+    if rx.resampler.identity {
+        return accept_plain(rx, samples);
+    }
+    accept_resampled(rx, samples)
 }
 
 // A fresh receiver on an admitted rate.
@@ -256,8 +330,7 @@ impl Rx {
         requires { ⌜ RxSound self ⌝ }
         ensures { λ r. ⌜ (wrote (acceptanceOf (r .answer)) (receiverOf (r .state)) ≡ written (receiverOf self) (now (samples .entry))) × RxSound (r .state) ⌝ }
     {
-        let out = self.out;
-        let answer = check(samples, self.accepted, out.count);
+        let answer = check(samples, self.accepted, self.out.count);
         if is_accepted(answer) {
             let state = accept(self, samples);
             return Written { answer, state };
@@ -269,31 +342,22 @@ impl Rx {
     }
 
     // As many bytes as wait and have room in buf, oldest first.
-    pub fn read(self, buf: &mut [u8]) -> ReadBytes
+    pub fn read(mut self, buf: &mut [u8]) -> ReadBytes
         requires { ⌜ RxSound self ⌝ }
         ensures { λ r. ⌜ (readOut (r .count) (receiverOf (r .state)) (now (buf .exit)) ≡ readOf (receiverOf self) (now (buf .entry))) × RxSound (r .state) ⌝ }
     {
         let out0 = self.out;
         let d = out0.drain(buf);
         let out = d.state;
-        let resampler = self.resampler;
-        let demod = self.demod;
-        let events = self.events;
-        let state = Rx {
-            resampler,
-            demod,
-            out,
-            events,
-            accepted: self.accepted,
-        };
+        self.out = out;
         ReadBytes {
             count: d.count,
-            state,
+            state: self,
         }
     }
 
     // The oldest carrier event that waits, if there is one.
-    pub fn events(self) -> TakenEvent
+    pub fn events(mut self) -> TakenEvent
         requires { ⌜ RxSound self ⌝ }
         ensures { λ r. ⌜ (taken (eventsOf (r .event)) (receiverOf (r .state)) ≡ eventOf (receiverOf self)) × RxSound (r .state) ⌝ }
     {
@@ -301,17 +365,8 @@ impl Rx {
         let next = events0.next();
         let events = next.state;
         let event = next.event;
-        let resampler = self.resampler;
-        let demod = self.demod;
-        let out = self.out;
-        let state = Rx {
-            resampler,
-            demod,
-            out,
-            events,
-            accepted: self.accepted,
-        };
-        TakenEvent { event, state }
+        self.events = events;
+        TakenEvent { event, state: self }
     }
 
     // The latched report: the detector is up, and a block was dominant once.

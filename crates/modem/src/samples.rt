@@ -21,8 +21,8 @@ pub fn all_in_range(samples: &[f32]) -> bool
 }
 
 // The samples, each as an f64, to the front of out.
-pub fn widen_into(samples: &[f32], out: &mut [f64; 1024])
-    requires { ⌜ (length (now samples) ≤ 1024) × (length (now out) ≡ 1024) ⌝ }
+pub fn widen_into(samples: &[f32], out: &mut [f64])
+    requires { ⌜ length (now samples) ≤ length (now out) ⌝ }
     ensures { λ _. ⌜ Widened (now (samples .entry)) (now (out .entry)) (now (out .exit)) ⌝ }
 {
     let mut i = 0;

@@ -4,7 +4,7 @@ use mathlib.Core.Path.{_≡_, refl}
 use mathlib.Core.Bool.{Bool, true, false, not, _&&_, _||_}
 use lib.Dec.{ltb, eqb}
 use Rattle.refusal.specs.declared.Refusal.{Refusal}
-use Rattle.refusal.specs.declared.Refusal.the-variants.{Rate, Station, TooManySamples, BadSample, OutputTooShort, OutOfSamples, BytesWait}
+use Rattle.refusal.specs.declared.Refusal.the-variants.{Rate, Station, TooManySamples, BadSample, OutputTooShort, Amplitude, TooManyBits, OutOfSamples, BytesWait, BitsWait}
 use Rattle.refusal.specs.declared.Acceptance.{Acceptance}
 use Rattle.refusal.specs.declared.Acceptance.the-variants as acceptance
 use Rattle.refusal.specs.declared.Counted.{Counted}
@@ -35,8 +35,11 @@ numberOf Station = 2
 numberOf TooManySamples = 3
 numberOf BadSample = 4
 numberOf OutputTooShort = 5
+numberOf Amplitude = 6
+numberOf TooManyBits = 7
 numberOf OutOfSamples = 31
 numberOf BytesWait = 32
+numberOf BitsWait = 33
 
 -- what each case of an answer gives
 abbrev pub acceptanceOf : Acceptance → Reply Unit

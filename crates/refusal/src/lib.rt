@@ -16,8 +16,11 @@ pub enum Refusal {
     TooManySamples,
     BadSample,
     OutputTooShort,
+    Amplitude,
+    TooManyBits,
     OutOfSamples,
     BytesWait,
+    BitsWait,
 }
 
 impl Refusal {
@@ -31,8 +34,11 @@ impl Refusal {
             Refusal::TooManySamples => 3,
             Refusal::BadSample => 4,
             Refusal::OutputTooShort => 5,
+            Refusal::Amplitude => 6,
+            Refusal::TooManyBits => 7,
             Refusal::OutOfSamples => 31,
             Refusal::BytesWait => 32,
+            Refusal::BitsWait => 33,
         }
     }
 }

@@ -2,10 +2,12 @@
 use Prim.Native.Nat.{_≤_}
 use Rattle.resampling.specs.ResampleHeld.{Sound}
 use Rattle.modem.specs.RxHeld.{RxSound}
+use Rattle.sending.specs.TxHeld.{TxSound}
 use Rattle.replay.specs.declared.desk.Desk.{Desk}
 
--- the receiver and the resampler are such as their calls gave, and the block has at most its places
+-- the receiver, the resampler and the sender are such as their calls gave, and the block has at most its places
 pub record DeskSound (d : Desk) : Type 0 where
   pub rx : RxSound (d .rx)
   pub resampler : Sound (d .resampler)
+  pub tx : TxSound (d .tx)
   pub filled : d .n ≤ 2049

@@ -1,4 +1,4 @@
-// The block of samples that the next call takes, as the patterns of floats.
+// The block of samples or bytes that the next call takes, as patterns.
 use crate::fields::digit;
 use crate::fields::number_at;
 use crate::fields::numbers_of;
@@ -156,4 +156,18 @@ pub fn signs(block: &mut [u64], from: usize, line: &[u8]) -> Filled
         };
     }
     all_signs(block, from, value, line, at + 1)
+}
+
+// Each pattern's byte, which its low 8 bits are, as far as there is room.
+pub fn bytes_of(patterns: &[u64], out: &mut [u8])
+    ensures { λ _. ⌜ length (now (out .exit)) ≡ length (now (out .entry)) ⌝ }
+{
+    let mut i = 0;
+    while i < patterns.len() {
+        if out.len() <= i {
+            return;
+        }
+        out[i] = (patterns[i] % 256) as u8;
+        i += 1;
+    }
 }

@@ -1,5 +1,6 @@
 // What the program keeps from line to line, and what each line does.
 use crate::block::Filled;
+use crate::block::bytes_of;
 use crate::block::equal;
 use crate::block::several;
 use crate::block::signs;
@@ -9,14 +10,17 @@ use crate::floats::singles;
 use crate::print;
 use crate::receiver;
 use crate::resampler;
+use crate::sender;
 use bell103::Role;
 use modem::rx::Rx;
 use resampling::resample::Resampler;
+use sending::tx::Tx;
 ghost use Prim.Native.Nat.{_≤_};
 ghost use mathlib.Core.Path.{_≡_};
 ghost use lib.ListN.{length};
 ghost use Rattle.modem.specs.RxHeld.{RxSound};
 ghost use Rattle.resampling.specs.ResampleHeld.{Sound};
+ghost use Rattle.sending.specs.TxHeld.{TxSound};
 ghost use Rattle.replay.specs.Desk.{DeskSound};
 
 // The places of the block: one more than a call of the resampler takes.
@@ -25,10 +29,14 @@ pub const PLACES: usize = 2049;
 // The most places of an output.
 const MOST_ROOM: u64 = 4096;
 
+// The most samples of a read: one more than it takes.
+const MOST_READ: u64 = 1025;
+
 pub struct Desk {
     pub rx: Rx,
     pub resampler: Resampler,
-    // Samples in the block.
+    pub tx: Tx,
+    // Samples or bytes in the block.
     pub n: usize,
     // Lines begun.
     pub line: u64,
@@ -39,11 +47,14 @@ pub fn fresh() -> Desk
 {
     let receiver = Rx::new(8000, Role::Originate);
     let converter = Resampler::new(8000, 8000);
+    let sender = Tx::new(8000, Role::Originate);
     let rx = receiver.state;
     let resampler = converter.state;
+    let tx = sender.state;
     Desk {
         rx,
         resampler,
+        tx,
         n: 0,
         line: 0,
     }
@@ -56,9 +67,11 @@ fn counted(d: Desk) -> Desk
 {
     let rx = d.rx;
     let resampler = d.resampler;
+    let tx = d.tx;
     Desk {
         rx,
         resampler,
+        tx,
         n: d.n,
         line: std::num::wrapping_add_u64(d.line, 1),
     }
@@ -84,9 +97,11 @@ fn filled(d: Desk, f: Filled) -> Desk
     }
     let rx = d.rx;
     let resampler = d.resampler;
+    let tx = d.tx;
     Desk {
         rx,
         resampler,
+        tx,
         n: f.n,
         line: d.line,
     }
@@ -97,9 +112,11 @@ fn with_rx(d: Desk, rx: Rx) -> Desk
     ensures { λ r. ⌜ DeskSound r ⌝ }
 {
     let resampler = d.resampler;
+    let tx = d.tx;
     Desk {
         rx,
         resampler,
+        tx,
         n: 0,
         line: d.line,
     }
@@ -110,15 +127,32 @@ fn with_resampler(d: Desk, resampler: Resampler) -> Desk
     ensures { λ r. ⌜ DeskSound r ⌝ }
 {
     let rx = d.rx;
+    let tx = d.tx;
     Desk {
         rx,
         resampler,
+        tx,
         n: 0,
         line: d.line,
     }
 }
 
-// ---- the calls
+fn with_tx(d: Desk, tx: Tx) -> Desk
+    requires { ⌜ DeskSound d × TxSound tx ⌝ }
+    ensures { λ r. ⌜ DeskSound r ⌝ }
+{
+    let rx = d.rx;
+    let resampler = d.resampler;
+    Desk {
+        rx,
+        resampler,
+        tx,
+        n: 0,
+        line: d.line,
+    }
+}
+
+// ---- the calls of the receiver and the resampler
 
 fn new_receiver(d: Desk, line: &[u8]) -> Desk
     requires { ⌜ DeskSound d ⌝ }
@@ -221,7 +255,123 @@ fn longest(d: Desk, line: &[u8]) -> Desk
     d
 }
 
+// ---- the sender's calls
+
+fn new_sender(d: Desk, line: &[u8]) -> Desk
+    requires { ⌜ DeskSound d ⌝ }
+    ensures { λ r. ⌜ DeskSound r ⌝ }
+{
+    let f = numbers_of(line, false);
+    if f.count != 2 {
+        return malformed(d);
+    }
+    if 0xFFFF_FFFF < f.a {
+        return malformed(d);
+    }
+    if 1 < f.b {
+        return malformed(d);
+    }
+    let tx = sender::create(f.a as u32, f.b);
+    with_tx(d, tx)
+}
+
+fn set_amplitude(d: Desk, line: &[u8]) -> Desk
+    requires { ⌜ DeskSound d ⌝ }
+    ensures { λ r. ⌜ DeskSound r ⌝ }
+{
+    let f = numbers_of(line, true);
+    if f.count != 1 {
+        return malformed(d);
+    }
+    if 0xFFFF_FFFF < f.a {
+        return malformed(d);
+    }
+    let before = d.tx;
+    let tx = sender::set_amplitude(before, f.a);
+    with_tx(d, tx)
+}
+
+fn no_bytes() -> [u8; PLACES]
+    ensures { λ r. ⌜ length r ≡ 2049 ⌝ }
+{
+    [0u8; PLACES]
+}
+
+fn send(d: Desk, block: &[u64], line: &[u8]) -> Desk
+    requires { ⌜ DeskSound d ⌝ }
+    ensures { λ r. ⌜ DeskSound r ⌝ }
+{
+    if line.len() != 1 {
+        return malformed(d);
+    }
+    let mut bytes = no_bytes();
+    bytes_of(block, &mut bytes);
+    let n = d.n;
+    let before = d.tx;
+    let tx = sender::write(before, &bytes[..n]);
+    with_tx(d, tx)
+}
+
+fn idle_mark(d: Desk, line: &[u8]) -> Desk
+    requires { ⌜ DeskSound d ⌝ }
+    ensures { λ r. ⌜ DeskSound r ⌝ }
+{
+    let f = numbers_of(line, false);
+    if f.count != 1 {
+        return malformed(d);
+    }
+    let before = d.tx;
+    let tx = sender::idle_mark(before, f.a);
+    with_tx(d, tx)
+}
+
+fn read(d: Desk, line: &[u8], each: bool) -> Desk
+    requires { ⌜ DeskSound d ⌝ }
+    ensures { λ r. ⌜ DeskSound r ⌝ }
+{
+    let f = numbers_of(line, false);
+    if f.count != 1 {
+        return malformed(d);
+    }
+    if MOST_READ < f.a {
+        return malformed(d);
+    }
+    let before = d.tx;
+    let tx = sender::read(before, f.a as usize, each);
+    with_tx(d, tx)
+}
+
+fn duration(d: Desk, line: &[u8]) -> Desk
+    requires { ⌜ DeskSound d ⌝ }
+    ensures { λ r. ⌜ DeskSound r ⌝ }
+{
+    let f = numbers_of(line, false);
+    if f.count != 1 {
+        return malformed(d);
+    }
+    let tx = d.tx;
+    sender::duration(tx, f.a);
+    with_tx(d, tx)
+}
+
 // ---- a line
+
+// The lines that make a call of the sender.
+fn sender_call(d: Desk, letter: u8, block: &[u64], line: &[u8]) -> Desk
+    requires { ⌜ DeskSound d ⌝ }
+    ensures { λ r. ⌜ DeskSound r ⌝ }
+{
+    match letter {
+        b'T' => new_sender(d, line),
+        b'A' => set_amplitude(d, line),
+        b'K' => send(d, block, line),
+        b'I' => idle_mark(d, line),
+        b'G' => read(d, line, true),
+        b'H' => read(d, line, false),
+        b'L' => duration(d, line),
+        _ => malformed(d),
+    }
+}
 
 // The lines that make a call.
 fn call(d: Desk, letter: u8, block: &[u64], line: &[u8]) -> Desk
@@ -234,7 +384,7 @@ fn call(d: Desk, letter: u8, block: &[u64], line: &[u8]) -> Desk
         b'Z' => new_resampler(d, line),
         b'P' => process(d, block, line),
         b'M' => longest(d, line),
-        _ => malformed(d),
+        _ => sender_call(d, letter, block, line),
     }
 }
 

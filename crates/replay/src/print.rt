@@ -64,6 +64,11 @@ pub fn event(e: Event) -> bool {
     }
 }
 
+// The pattern of an f32: eight hexadecimal digits.
+pub fn pattern(bits: u64) {
+    io::print_hex(1, bits, 8);
+}
+
 // A blank and two hexadecimal digits.
 fn byte(b: u8) {
     text(b" ");

@@ -7,7 +7,8 @@ ghost use mathlib.Core.Path.{_≡_};
 ghost use lib.ListN.{length};
 ghost use Rattle.modem.specs.RxHeld.{RxSound};
 
-fn role_of(n: u64) -> Role {
+// Role 0 originates.
+pub fn role_of(n: u64) -> Role {
     if n == 0 {
         Role::Originate
     } else {

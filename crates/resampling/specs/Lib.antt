@@ -3,3 +3,4 @@ pub mod Design
 pub mod Resample
 pub mod ResampleLaws
 pub mod ResampleHeld
+pub mod Place

@@ -7,12 +7,12 @@ use native.Mathlib.Nat.{le-refl, mul-le-mul-left, mul-left-comm, add-mul, one-mu
 use native.Mathlib.Omega.{arith}
 use borrow.Author.Tests.{le-ltb}
 use lib.Dec.{eqb}
-use lib.ListN.{length, length-append}
+use lib.ListN.{length, drop, length-append}
 use lib.Ieee.{Float}
 use Rattle.numeric.specs.F64.{if_then_else_}
 use Rattle.numeric.specs.Counts.{outputLen}
-use Rattle.refusal.specs.Refusals.{first}
-use Rattle.resampling.specs.Resample.{Filter, Flow, State, Ran, ran, wants, pushed, emitted, drained, fed, filterOf, maxOutputLen, tooMany, refusalOf, ranOver, laid, processed}
+use Rattle.refusal.specs.Refusals.{first, given}
+use Rattle.resampling.specs.Resample.{Filter, Flow, State, Ran, ran, wants, pushed, emitted, drained, fed, filterOf, maxOutputLen, tooMany, refusalOf, ranOver, laid, outcome, processed}
 
 -- ---- what is made is within the room
 -- a property of both is one of the case
@@ -55,6 +55,22 @@ pub accepted : (s : State) (xs out : List Float) → length xs ≤ 2048 → maxO
     → processed s xs out ≡ laid s out (ranOver s (length out) xs)
 unfolding processed
 accepted s xs out h l = rw (not-refused s (length xs) (length out) h l)
+
+-- ---- "Equal rates copy": the samples themselves, and nothing moves
+pub equal-rates : (s : State) (room : ℕ) (xs : List Float) → eqb (s .src) (s .dst) ≡ true → ranOver s room xs ≡ ran xs (s .flow)
+unfolding ranOver
+equal-rates s room xs e = rw e
+
+pub equal-rates-len : (src dst n : ℕ) → eqb src dst ≡ true → maxOutputLen src dst n ≡ n
+unfolding maxOutputLen
+equal-rates-len src dst n e = rw e
+
+-- a whole call of n samples into an output with room for them
+pub equal-rates-process : (s : State) (xs out : List Float) → eqb (s .src) (s .dst) ≡ true → length xs ≤ 2048 → length xs ≤ length out
+    → processed s xs out ≡ outcome (given (length xs)) s (xs ++ drop (length xs) out)
+equal-rates-process s xs out e h l =
+    let r = accepted s xs out h (rw (equal-rates-len (s .src) (s .dst) (length xs) e) l) in
+    r ∙ ap (laid s out) (equal-rates s (length out) xs e)
 
 -- ---- going down to 8,000, n samples make n + 2 at most
 pub output-few : (src n : ℕ) → 8000 ≤ src → maxOutputLen src 8000 n ≤ n + 2

@@ -15,7 +15,8 @@ pub struct Text {
 
 const MOST_LINES: u64 = 18446744073709551615;
 
-fn one_more(n: u64) -> u64
+// One line more.
+pub fn one_more(n: u64) -> u64
     ensures { λ r. ⌜ r ≡ min (n + 1) mostCount ⌝ }
 {
     if n < MOST_LINES {
@@ -25,7 +26,7 @@ fn one_more(n: u64) -> u64
 }
 
 // A line's number and its answer.
-fn print_answer(line: u64, answer: u8) {
+pub fn print_answer(line: u64, answer: u8) {
     io::print_decimal(1, line);
     io::write_all(1, b" ");
     io::print_decimal(1, answer as u64);
@@ -52,7 +53,7 @@ fn print_level(level: i16) {
 }
 
 // `R`, then station, water minute and level where there is a reading.
-fn print_reading(station: u16, reading: Reading) {
+pub fn print_reading(station: u16, reading: Reading) {
     io::write_all(1, b"R");
     match reading {
         Reading::None => {}

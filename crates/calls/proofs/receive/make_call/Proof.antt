@@ -1,4 +1,4 @@
--- `receive::make_call` meets its contract: what the write, the read and the taking of events ensure, one after the other. Assumes nothing.
+-- `receive::make_call` meets its contract: what the write, the draining and the taking of events ensure, one after the other. Assumes nothing.
 use Rattle.calls.proofs.ReceiverCalls.{calls-is}
 use Rattle.calls.specs.Receive.{bit}
 use mathlib.Core.Path.{refl, ap, _∙_}
@@ -9,8 +9,8 @@ use Rattle.calls.proofs.receive.make_call.Tie as tie
 write-requires : tie.Need-write-requires
 write-requires c κs = search needs
 
-read-requires : tie.Need-read-requires
-read-requires c κs = search needs
+drain-requires : tie.Need-drain-requires
+drain-requires c κs = search needs
 
 take-events-requires : tie.Need-take-events-requires
 take-events-requires c κs = search needs
@@ -35,17 +35,18 @@ same-length-2 c = search needs
 
 returns : tie.Need-returns
 returns c =
-    let s = c .before .before .before .before .before .before .before .before .before .before .before .before .before .before .before .before .before .before .before in
-    let r = c .before .before .before .before .before .before .before .before .before .before .before .before .read in
-    let t = c .before .before .before .before .before .before .before .take-events in
-    calls-is (s .args .rx) _ _ _ _ _ (c .before .before .before .before .before .before .before .before .before .before .before .before .before .before .before .write .ensures .0) _ _ _ (r .ensures .0) _ _ _ (t .ensures) _ (c .before .before .before .number-in .ensures) refl refl (c .before .one-if .ensures ∙ ap bit (c .before .before .carrier-detected .ensures)) (c .framing-errors .ensures)
+    let s = c .before .before .before .before .before .before .before .before .before .before .before .before .before .before .before .before .before .before .before .before .before in
+    let w = c .before .before .before .before .before .before .before .before .before .before .before .before .before .before .before .before .before .write .ensures in
+    let d = c .before .before .before .before .before .before .before .before .before .before .before .before .drain in
+    let t = c .before .before .before .before .before .before .before .before .take-events in
+    calls-is (s .args .rx) _ _ _ _ _ (w .0) (w .1) (d .result) _ (d .ensures) _ _ _ (t .ensures) _ (c .before .before .before .number-in .ensures) refl refl (c .before .one-if .ensures ∙ ap bit (c .before .before .carrier-detected .ensures)) (c .framing-errors .ensures)
 
 pub make-call-spec : {M : Type 1} → statement M
 make-call-spec =
     tie.close
     (tie.spec
     write-requires
-    read-requires
+    drain-requires
     take-events-requires
     number-in-requires
     carrier-detected-requires

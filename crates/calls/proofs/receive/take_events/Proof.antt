@@ -1,7 +1,8 @@
 -- `receive::take_events` meets its contract. The invariant: the first i events that wait are in the buffer. Assumes nothing.
-use Rattle.calls.proofs.ReceiverCalls.{noted-count, Taking, taking-start, taking-step, taking-end}
+use Rattle.calls.proofs.ReceiverCalls.{Taking, taking-start, taking-step, taking-end}
 use native.Mathlib.Omega.{arith}
-use Rattle.modem.specs.RxHeld.{receiverOf}
+use Rattle.modem.specs.Queue.{noted}
+use Rattle.modem.specs.QueueLaws.{noted-length}
 use lib.ListN.{length}
 use mathlib.Core.Path.{_≡_, refl, _∙_}
 use Prim.Native.Nat.{_-_, _≤_}
@@ -10,19 +11,19 @@ use Rattle.calls.proofs.receive.take_events.Statement.{statement}
 use Rattle.calls.proofs.receive.take_events.Tie as tie
 
 abbrev Inv-loop : tie.InvT-loop
-Inv-loop buf₀ count state₀ i₀ buf state i = (i ≤ count) × (length buf ≡ length buf₀) × Taking (receiverOf state₀) buf₀ i state buf
+Inv-loop buf₀ count queue₀ i₀ buf queue i = (i ≤ count) × (length buf ≡ length buf₀) × Taking (noted queue₀) buf₀ i queue buf
 
 abbrev μ-loop : tie.MeasureT-loop
-μ-loop buf₀ count state₀ i₀ buf state i = count - i
+μ-loop buf₀ count queue₀ i₀ buf queue i = count - i
 
 smaller-requires : tie.Need-smaller-requires Inv-loop μ-loop
 smaller-requires c κs = search needs
 
 loop-holds : tie.Need-loop-holds Inv-loop μ-loop
-loop-holds c = (omega arith, refl, taking-start _ _ (c .before .before .before .pre))
+loop-holds c = (omega arith, refl, taking-start _ _ (c .before .before .pre))
 
-events-requires : tie.Need-events-requires Inv-loop μ-loop
-events-requires c κs = c .before .loop .inv .2 .sound
+next-requires : tie.Need-next-requires Inv-loop μ-loop
+next-requires c κs = c .before .loop .inv .2 .rest .sound
 
 event-byte-requires : tie.Need-event-byte-requires Inv-loop μ-loop
 event-byte-requires c κs = search needs
@@ -39,12 +40,11 @@ loop-less c = search needs
 loop-again : tie.Need-loop-again Inv-loop μ-loop
 loop-again c =
     let l = c .before .before .before .before .loop in
-    let s = c .before .before .before .before .before .before .before .before in
+    let s = c .before .before .before .before .before .before .before in
     let n = c .before .before .before .before .before .smaller .ensures in
     let t = c .before .before .before .loop-test .taken in
-    let ev = c .before .before .events .ensures in
-    let w = noted-count (s .args .rx) (s .pre) in
-    (search needs, search needs, taking-step _ _ _ _ _ (l .inv .2) (omega (arith, t, n .1)) (omega (arith, t, n .2, w)) _ (c .before .before .events .result .event) _ (ev .0) (c .before .event-byte .ensures) (ev .1))
+    let w = noted-length (s .args .q) (s .pre) in
+    (search needs, search needs, taking-step _ _ _ _ _ (l .inv .2) (omega (arith, t, n .1)) (omega (arith, t, n .2, w)) _ _ (c .before .before .next .ensures) (c .before .event-byte .ensures))
 
 same-length : tie.Need-same-length Inv-loop μ-loop
 same-length c = search needs
@@ -52,9 +52,9 @@ same-length c = search needs
 returns : tie.Need-returns Inv-loop μ-loop
 returns c =
     let l = c .before .loop in
-    let s = c .before .before .before .before .before in
+    let s = c .before .before .before .before in
     let e : l .i ≡ c .before .before .smaller .result = omega arith in
-    rw (← e) (taking-end _ _ (l .i) _ _ (rw (noted-count (s .args .rx) (s .pre)) (e ∙ c .before .before .smaller .ensures .0)) (l .inv .2))
+    rw (← e) (taking-end _ _ (l .i) _ _ (rw (noted-length (s .args .q) (s .pre)) (e ∙ c .before .before .smaller .ensures .0)) (l .inv .2))
 
 pub take-events-spec : {M : Type 1} → statement M
 take-events-spec =
@@ -64,7 +64,7 @@ take-events-spec =
     μ-loop
     smaller-requires
     loop-holds
-    events-requires
+    next-requires
     event-byte-requires
     slice-write-buf
     add-i

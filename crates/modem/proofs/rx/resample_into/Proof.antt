@@ -13,6 +13,9 @@ use Rattle.modem.proofs.rx.resample_into.Tie as tie
 zeros-1024-requires : tie.Need-zeros-1024-requires
 zeros-1024-requires c κs = search needs
 
+slice-aggregate-widen-into : tie.Need-slice-aggregate-widen-into
+slice-aggregate-widen-into c = search needs
+
 widen-into-requires : tie.Need-widen-into-requires
 widen-into-requires c κs = search needs
 
@@ -27,14 +30,15 @@ array-share-prefix-in64 c = search needs
 
 slice-aggregate-process : tie.Need-slice-aggregate-process
 slice-aggregate-process c =
-    let s = c .before .before .before .before .before .before .before .before in
-    let w = c .before .before .before .widen-into .ensures in
-    sym (length-take-le _ _ (omega (arith, w .places, s .pre .2)))
+    let s = c .before .before .before .before .before .before .before .before .before in
+    let w = c .before .before .before .before .widen-into .ensures in
+    let z : length (c .before .before .before .before .before .before .zeros-1024 .result) ≡ 1024 = search needs in
+    sym (length-take-le _ _ (omega (arith, w .places, z, s .pre .2)))
 
 slice-relend-prefix-process : tie.Need-slice-relend-prefix-process
 unfolding stateOf
 slice-relend-prefix-process c =
-    let s = c .before .before .before .before .before .before .before .before in
+    let s = c .before .before .before .before .before .before .before .before .before in
     let m = c .before .before .max-output-len .ensures in
     let n = length (s .args .samples .now) in
     let e = c .before .count-in .ensures ∙ room-is (stateOf (s .args .r)) n (c .before .before .max-output-len .result) (omega (arith, s .pre .2)) m in
@@ -56,8 +60,8 @@ same-length c = search needs
 returns : tie.Need-returns
 unfolding stateOf
 returns c =
-    let s = c .before .before .before .before .before .before .before .before .before .before .before .before .before .before in
-    let w = c .before .before .before .before .before .before .before .before .before .widen-into .ensures in
+    let s = c .before .before .before .before .before .before .before .before .before .before .before .before .before .before .before in
+    let w = c .before .before .before .before .before .before .before .before .before .before .widen-into .ensures in
     let m = c .before .before .before .before .before .before .before .before .max-output-len .ensures in
     let p = c .before .before .before .before .process .ensures in
     let n = length (s .args .samples .now) in
@@ -71,6 +75,7 @@ resample-into-spec =
     tie.close
     (tie.spec
     zeros-1024-requires
+    slice-aggregate-widen-into
     widen-into-requires
     max-output-len-requires
     count-in-requires

@@ -31,8 +31,8 @@ widen-requires c κs = search needs
 mul-out : tie.Need-mul-out Inv-loop μ-loop
 mul-out c = search needs
 
-element-write-out : tie.Need-element-write-out Inv-loop μ-loop
-element-write-out c = search needs
+slice-write-out : tie.Need-slice-write-out Inv-loop μ-loop
+slice-write-out c = search needs
 
 add-i : tie.Need-add-i Inv-loop μ-loop
 add-i c = search needs
@@ -45,10 +45,13 @@ loop-again c =
     let l = c .before .before .before .loop in
     (search needs, rw (l .inv .1, c .widen .ensures) (over-turn _ _ (l .i) _ (search needs) (search needs)), simp length-set (l .inv .2))
 
+same-length : tie.Need-same-length Inv-loop μ-loop
+same-length c = search needs
+
 returns : tie.Need-returns Inv-loop μ-loop
 returns c =
     let l = c .before .loop in
-    let b = c .before .before .before in
+    let b = c .before .before .before .before in
     let s = b .args .samples .now in
     let rest = drop (length s) (b .args .out .now) in
     let e : l .i ≡ length s = omega arith in
@@ -56,7 +59,7 @@ returns c =
     record {
       front = rw whole (take-append-seam s rest);
       rest = rw whole (drop-append-seam s rest);
-      places = l .inv .2 ∙ b .pre .1;
+      places = l .inv .2;
     }
 
 pub widen-into-spec : {M : Type 1} → statement M
@@ -70,8 +73,9 @@ widen-into-spec =
     shared-slice-read-widen
     widen-requires
     mul-out
-    element-write-out
+    slice-write-out
     add-i
     loop-less
     loop-again
+    same-length
     returns)

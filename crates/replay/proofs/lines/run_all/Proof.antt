@@ -1,4 +1,5 @@
 -- The states stay sound, and block and line keep their lengths; the count of turns falls. Assumes nothing.
+use native.Mathlib.Omega.{arith}
 use Prim.Native.Nat.{_≤_}
 use Rattle.replay.specs.Desk.{DeskSound}
 use mathlib.Core.Path.{_≡_}
@@ -59,10 +60,10 @@ run-part-requires : tie.Need-run-part-requires Inv-loop μ-loop
 run-part-requires c κs = search needs
 
 sub-turns : tie.Need-sub-turns Inv-loop μ-loop
-sub-turns c = search needs
+sub-turns c = omega (arith, c .before .before .before .before .before .before .before .before .before .before .before .before .before .before .loop-test .taken)
 
 loop-less : tie.Need-loop-less Inv-loop μ-loop
-loop-less c = search needs
+loop-less c = omega (arith, c .before .before .before .before .before .before .before .before .before .before .before .before .before .before .loop-test .taken)
 
 loop-again : tie.Need-loop-again Inv-loop μ-loop
 loop-again c = search needs

@@ -15,7 +15,7 @@ gate-after-requires c κs = search needs
 
 returns : tie.Need-returns
 unfolding fedCore
-returns c = rw (c .gate-after .ensures, c .before .before .feed .ensures, c .before .before .before .advance .ensures)
+returns c = rw (c .gate-after .ensures, c .before .before .before .before .before .before .before .before .feed .ensures, c .before .before .before .before .before .before .before .before .before .advance .ensures)
 
 pub feed-spec : {M : Type 1} → statement M
 feed-spec = tie.close (tie.spec advance-requires feed-requires gate-after-requires returns)

@@ -16,7 +16,7 @@ slice-requires c κs = search needs
 returns : tie.Need-returns
 unfolding finished
 returns c =
-    rw (c .before .slice .ensures, c .before .before .before .tick .ensures, c .before .before .before .before .event-of .ensures)
+    rw (c .before .before .before .before .before .before .slice .ensures, c .before .before .before .before .before .before .before .before .tick .ensures, c .before .before .before .before .before .before .before .before .before .event-of .ensures)
 
 pub finish-spec : {M : Type 1} → statement M
 finish-spec = tie.close (tie.spec event-of-requires tick-requires slice-requires returns)

@@ -39,6 +39,9 @@ module _ (d : Demodulator) (s : Float) (r : Rings) (k : Core) where
       → stepWith r x ≡ stepOf d s
   decodes m n o carrier latch x er ek e em en eo ec el ex = rw (ex, el, ec, eo, en, em, ek, er) (sym (step-decodes d s (rw ek at e)))
 
+waves-requires : tie.Need-waves-requires
+waves-requires c κs = search needs
+
 multiply-requires : tie.Need-multiply-requires
 multiply-requires c κs = search needs
 
@@ -53,18 +56,20 @@ returns c =
     let f = c .before .before in
     let n = f .before in
     let m = n .before .before .before in
-    waits _ _ _ _ (rw (n .multiply2 .ensures .1, n .multiply2 .ensures .0, m .multiply .ensures .1, m .multiply .ensures .0)) (f .feed .ensures)
+    let w = m .before .before .before .waves .ensures in
+    waits _ _ _ _ (rw (n .multiply2 .ensures .1, n .multiply2 .ensures .0, m .multiply .ensures .1, m .multiply .ensures .0, w .0, w .1, w .2, w .3)) (f .feed .ensures)
     (not-true (f .feed .result .corr .filled) (c .if1 .taken))
 
 sums-on-requires : tie.Need-sums-on-requires
 sums-on-requires c κs =
     let n = c .before .before .before .before .before .before .before in
     let m = n .before .before .before in
-    let a = m .before .before .before .before in (
+    let w = m .before .before .before .waves .ensures in
+    let a = m .before .before .before .before .before in (
       omega (arith, a .pre .0),
       omega arith,
       summed-kept (a .args .self .corr) (a .args .s) _ _ _ (a .pre .1)
-          (rw (n .multiply2 .ensures .1, n .multiply2 .ensures .0, m .multiply .ensures .1, m .multiply .ensures .0)),
+          (rw (n .multiply2 .ensures .1, n .multiply2 .ensures .0, m .multiply .ensures .1, m .multiply .ensures .0, w .0, w .1, w .2, w .3)),
     )
 
 roots-requires : tie.Need-roots-requires
@@ -92,7 +97,8 @@ returns-2 c =
     let f = i .before .before in
     let n = f .before in
     let m = n .before .before .before in
-    decodes _ _ _ _ _ _ _ _ _ _ (rw (n .multiply2 .ensures .1, n .multiply2 .ensures .0, m .multiply .ensures .1, m .multiply .ensures .0)) (f .feed .ensures)
+    let w = m .before .before .before .waves .ensures in
+    decodes _ _ _ _ _ _ _ _ _ _ (rw (n .multiply2 .ensures .1, n .multiply2 .ensures .0, m .multiply .ensures .1, m .multiply .ensures .0, w .0, w .1, w .2, w .3)) (f .feed .ensures)
     (not-false (f .feed .result .corr .filled) (i .if1 .left)) (tone-end _ _ _ _ _ (t .mark-i) (t .mark-q) (y .roots .ensures .0))
     (tone-end _ _ _ _ _ (t .space-i) (t .space-q) (y .roots .ensures .1)) (o .decide .ensures) (u .update .ensures)
     (c .before .see .ensures) (c .finish .ensures)
@@ -101,6 +107,7 @@ pub step-spec : {M : Type 1} → statement M
 step-spec =
     tie.close
     (tie.spec
+    waves-requires
     multiply-requires
     multiply-requires-2
     feed-requires

@@ -11,8 +11,8 @@ next-requires c κs = c .before .pre .events
 returns : tie.Need-returns
 unfolding receiverOf eventOf
 returns c =
-    let p = c .before .before .before .before .before .before .pre in
-    let n = c .before .before .before .before .next .ensures in (
+    let p = c .before .before .before .pre in
+    let n = c .before .next .ensures in (
       rw (n .oldest, n .rest .waits),
       record { resampler = p .resampler; to-8000 = p .to-8000; tuned = p .tuned; bytes = p .bytes; events = n .rest .sound; count = p .count },
     )

@@ -14,8 +14,8 @@ same-length c = search needs
 returns : tie.Need-returns
 unfolding receiverOf readOf
 returns c =
-    let p = c .before .before .before .before .before .before .before .before .before .before .pre in
-    let d = c .before .before .before .before .before .before .drain .ensures in (
+    let p = c .before .before .before .before .before .before .before .pre in
+    let d = c .before .before .before .drain .ensures in (
       rw (d .count, d .buffer, d .rest .waits),
       record { resampler = p .resampler; to-8000 = p .to-8000; tuned = p .tuned; bytes = d .rest .sound; events = p .events; count = p .count },
     )

@@ -18,14 +18,14 @@ is-accepted-requires c κs = search needs
 
 accept-requires : tie.Need-accept-requires
 accept-requires c κs =
-    let s = c .before .before .before .before .before in
+    let s = c .before .before .before .before in
     let t = sym (c .before .is-accepted .ensures) ∙ c .if1 .taken in
     (s .pre, accepted-none (c .before .before .check .result) _ (c .before .before .check .ensures) t)
 
 returns : tie.Need-returns
 unfolding receiverOf
 returns c =
-    let s = c .before .before .before .before .before .before in
+    let s = c .before .before .before .before .before in
     let r = s .args .self in
     let t = sym (c .before .before .is-accepted .ensures) ∙ c .before .if1 .taken in
     let n = queued-length (r .out) (s .pre .bytes) in
@@ -35,7 +35,7 @@ returns c =
 returns-2 : tie.Need-returns-2
 unfolding receiverOf
 returns-2 c =
-    let s = c .before .before .before .before .before in
+    let s = c .before .before .before .before in
     let r = s .args .self in
     let t = sym (c .before .is-accepted .ensures) ∙ c .if1 .left in
     let n = queued-length (r .out) (s .pre .bytes) in

@@ -1,4 +1,4 @@
--- `rx::accept` meets its contract: what passes the checks fits the arrays, and the two steps are the definition's. Assumes nothing.
+-- `rx::accept_resampled` meets its contract: what passes the checks fits the arrays, and the two steps are the definition's. Assumes nothing.
 use Rattle.resampling.specs.ResampleHeld.{stateOf}
 use Rattle.modem.specs.Rx.{acceptedBy, heardBy}
 use Rattle.modem.specs.RxHeld.{receiverOf}
@@ -9,8 +9,8 @@ use mathlib.Core.Path.{_≡_, sym, _∙_}
 use lib.ListN.{length, take}
 use Rattle.modem.proofs.Receiving.{passes, bytes-fit, fits-scratch}
 use borrow.Author.Needs.{needs}
-use Rattle.modem.proofs.rx.accept.Statement.{statement}
-use Rattle.modem.proofs.rx.accept.Tie as tie
+use Rattle.modem.proofs.rx.accept_resampled.Statement.{statement}
+use Rattle.modem.proofs.rx.accept_resampled.Tie as tie
 
 zeros-1026-requires : tie.Need-zeros-1026-requires
 zeros-1026-requires c κs = search needs
@@ -72,8 +72,8 @@ returns c =
       },
     )
 
-pub accept-spec : {M : Type 1} → statement M
-accept-spec =
+pub accept-resampled-spec : {M : Type 1} → statement M
+accept-resampled-spec =
     tie.close
     (tie.spec
     zeros-1026-requires

@@ -1,0 +1,3 @@
+-- Laws for the proofs of `bitqueue`.
+pub mod Ring
+pub mod Room

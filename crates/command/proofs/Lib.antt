@@ -1,0 +1,3 @@
+-- Laws that more than one proof of `command` cites.
+pub mod Digits
+pub mod Roles

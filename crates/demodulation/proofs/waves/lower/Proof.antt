@@ -1,0 +1,15 @@
+-- Each arm returns what the test picks. Assumes nothing.
+use Rattle.demodulation.specs.Waves.{lowered}
+use Rattle.demodulation.proofs.waves.lower.Statement.{statement}
+use Rattle.demodulation.proofs.waves.lower.Tie as tie
+
+returns : tie.Need-returns
+unfolding lowered
+returns c = rw (c .if1 .taken)
+
+returns-2 : tie.Need-returns-2
+unfolding lowered
+returns-2 c = rw (c .if1 .left)
+
+pub lower-spec : {M : Type 1} → statement M
+lower-spec = tie.close (tie.spec returns returns-2)

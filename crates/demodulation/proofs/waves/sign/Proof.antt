@@ -1,0 +1,15 @@
+-- Each arm returns what the test picks. Assumes nothing.
+use Rattle.demodulation.specs.Waves.{signed}
+use Rattle.demodulation.proofs.waves.sign.Statement.{statement}
+use Rattle.demodulation.proofs.waves.sign.Tie as tie
+
+returns : tie.Need-returns
+unfolding signed
+returns c = rw (c .if1 .taken)
+
+returns-2 : tie.Need-returns-2
+unfolding signed
+returns-2 c = rw (c .if1 .left)
+
+pub sign-spec : {M : Type 1} → statement M
+sign-spec = tie.close (tie.spec returns returns-2)

@@ -1,0 +1,55 @@
+-- The sum stays below its modulus. Assumes nothing.
+use Prim.Native.Nat.{_<_, _-_}
+use lib.ListN.{length}
+use borrow.Author.Needs.{needs}
+use Rattle.replay.proofs.floats.sum_of_patterns.Statement.{statement}
+use Rattle.replay.proofs.floats.sum_of_patterns.Tie as tie
+
+abbrev Inv-loop : tie.InvT-loop
+Inv-loop list sum₀ i₀ sum i = sum < 4294967296
+
+abbrev μ-loop : tie.MeasureT-loop
+μ-loop list sum₀ i₀ sum i = length list - i
+
+loop-holds : tie.Need-loop-holds Inv-loop μ-loop
+loop-holds c = search needs
+
+mul-pattern-of : tie.Need-mul-pattern-of Inv-loop μ-loop
+mul-pattern-of c = search needs
+
+shared-slice-read-pattern-of : tie.Need-shared-slice-read-pattern-of Inv-loop μ-loop
+shared-slice-read-pattern-of c = search needs
+
+pattern-of-requires : tie.Need-pattern-of-requires Inv-loop μ-loop
+pattern-of-requires c κs = search needs
+
+longer-sum-requires : tie.Need-longer-sum-requires Inv-loop μ-loop
+longer-sum-requires c κs = search needs
+
+add-i : tie.Need-add-i Inv-loop μ-loop
+add-i c = search needs
+
+loop-less : tie.Need-loop-less Inv-loop μ-loop
+loop-less c = search needs
+
+loop-again : tie.Need-loop-again Inv-loop μ-loop
+loop-again c = search needs
+
+returns : tie.Need-returns Inv-loop μ-loop
+returns c = search needs
+
+pub sum-of-patterns-spec : {M : Type 1} → statement M
+sum-of-patterns-spec =
+    tie.close
+    (tie.spec
+    Inv-loop
+    μ-loop
+    loop-holds
+    mul-pattern-of
+    shared-slice-read-pattern-of
+    pattern-of-requires
+    longer-sum-requires
+    add-i
+    loop-less
+    loop-again
+    returns)

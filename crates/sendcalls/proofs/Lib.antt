@@ -1,0 +1,3 @@
+-- Laws for the proofs of `sendcalls`.
+pub mod ByKind
+pub mod Steps

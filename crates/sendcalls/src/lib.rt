@@ -1,0 +1,2 @@
+// Lists of calls of the sender.
+pub mod send;

@@ -1,0 +1,690 @@
+// Streaming FSK modulator. `read` fills sample blocks; the symbol clock, the oscillator's phase and the resampler's history carry over
+// from call to call, so blocks are read in order.
+use bell103::BAUD;
+use bell103::Role;
+use bell103::TonePair;
+use bell103::nco::Nco;
+use bell103::samples_per_symbol;
+use bell103::tones;
+use bitqueue::take_bit;
+use numeric::convert::narrow;
+use numeric::counts::ceiling;
+use numeric::counts::nearest;
+use refusal::Acceptance;
+use refusal::Counted;
+use refusal::DSP_RATE;
+use refusal::Refusal;
+use refusal::rate_ok;
+use resampling::resample::Resampler;
+ghost use mathlib.Core.Path.{_≡_};
+ghost use mathlib.Core.Bool.{not, false};
+ghost use mathlib.Core.List.{[], map};
+ghost use Prim.Native.Nat.{min, _+_, _*_, _≤_, _<_};
+ghost use lib.ListN.{length, take, replicate};
+ghost use lib.Ieee.{binary32, ofBits};
+ghost use Rattle.numeric.specs.F64.{zero64};
+ghost use Rattle.numeric.specs.Counts.{need};
+ghost use Rattle.refusal.specs.Refusals.{acceptanceOf, isAccepted, countOf, countIn, replyOf, rateRefused};
+ghost use Rattle.bitqueue.specs.Bits.{queued, BitsHeld};
+ghost use Rattle.resampling.specs.Resample.{maxOutputLen};
+ghost use Rattle.resampling.specs.ResampleHeld.{stateOf, Sound};
+ghost use Rattle.sending.specs.Tone.{toneOf, struck, tick, ticked, sound, generated};
+ghost use Rattle.sending.specs.Tx.{modulator, scaled, scaledSound, passed, filled, freshSender, made, newOf, readRefused, reading, readOf, adjusted, amplitudeRefused, amplitudeOf, pendingOf, durationOf};
+ghost use Rattle.sending.specs.TxHeld.{keyerOf, modulatorBy, pendingIn, modulatorOf, senderOf, Rising, PendingHeld, TxSound, MakesInto, SharesInto, PassesInto, HandsOver, FillsWhole};
+
+// What moves with each sample: the oscillator, the symbol clock, and where the bits that wait stand in their ring.
+pub struct Wave {
+    pub nco: Nco,
+    pub sym_pos: f64,
+    pub current: bool,
+    pub head: usize,
+    pub waiting: usize,
+}
+
+pub struct Tx {
+    pub rate: u32,
+    pub tones: TonePair,
+    pub bits: [bool; 4096],
+    pub wave: Wave,
+    pub resampler: Resampler,
+    // Samples that a pass made and the slice had no place for: those from one place to another.
+    pub pending: [f32; 64],
+    pub from: usize,
+    pub upto: usize,
+    // Output scale, 1.0 unless deliberately turned down.
+    pub amplitude: f32,
+    // Samples given so far.
+    pub served: u64,
+}
+
+// ---- tones
+
+fn tone_of(t: TonePair, bit: bool) -> f64
+    ensures { λ r. ⌜ r ≡ toneOf t bit ⌝ }
+{
+    if bit { t.mark } else { t.space }
+}
+
+// The next symbol begins: the oscillator goes on at its tone.
+fn next_symbol(
+    bits: &[bool; 4096],
+    t: TonePair,
+    nco: Nco,
+    sym_pos: f64,
+    head: usize,
+    waiting: usize,
+) -> Wave
+    requires { ⌜ BitsHeld (now bits) head waiting ⌝ }
+    ensures { λ r. ⌜ keyerOf (now (bits .entry)) r ≡ struck t nco «sym_pos» (queued (now (bits .entry)) head waiting) ⌝ }
+    ensures { λ r. ⌜ BitsHeld (now (bits .entry)) (r .head) (r .waiting) ⌝ }
+{
+    let next = take_bit(bits, head, waiting);
+    let freq = tone_of(t, next.bit);
+    let tuned = nco.set_freq(freq);
+    Wave {
+        nco: tuned,
+        sym_pos,
+        current: next.bit,
+        head: next.head,
+        waiting: next.waiting,
+    }
+}
+
+struct Ticked {
+    value: f64,
+    wave: Wave,
+}
+
+// One sample.
+fn step(bits: &[bool; 4096], t: TonePair, w: Wave) -> Ticked
+    requires { ⌜ BitsHeld (now bits) (w .head) (w .waiting) ⌝ }
+    ensures { λ r. ⌜ tick (r .value) (keyerOf (now (bits .entry)) (r .wave)) ≡ ticked t (keyerOf (now (bits .entry)) w) ⌝ }
+    ensures { λ r. ⌜ BitsHeld (now (bits .entry)) (r .wave .head) (r .wave .waiting) ⌝ }
+{
+    let nco = w.nco;
+    let tone = nco.next();
+    let value = tone.value;
+    let on = tone.state;
+    let pos = w.sym_pos + 1.0 / samples_per_symbol();
+    if pos >= 1.0 {
+        let wave = next_symbol(bits, t, on, pos - 1.0, w.head, w.waiting);
+        return Ticked { value, wave };
+    }
+    let wave = Wave {
+        nco: on,
+        sym_pos: pos,
+        current: w.current,
+        head: w.head,
+        waiting: w.waiting,
+    };
+    Ticked { value, wave }
+}
+
+// Fills the slice with samples at 8,000 Hz.
+fn generate(bits: &[bool; 4096], t: TonePair, w: Wave, out: &mut [f64]) -> Wave
+    requires { ⌜ BitsHeld (now bits) (w .head) (w .waiting) ⌝ }
+    ensures { λ r. ⌜ sound (now (out .exit)) (keyerOf (now (bits .entry)) r) ≡ generated (length (now (out .entry))) t (keyerOf (now (bits .entry)) w) ⌝ }
+    ensures { λ r. ⌜ BitsHeld (now (bits .entry)) (r .head) (r .waiting) ⌝ }
+{
+    let mut wave = w;
+    let mut i = 0;
+    while i < out.len() {
+        let s = step(bits, t, wave);
+        out[i] = s.value;
+        wave = s.wave;
+        i += 1;
+    }
+    wave
+}
+
+// ---- samples at the device
+
+fn scale(a: f32, v: f64) -> f32
+    ensures { λ r. ⌜ r ≡ scaled a v ⌝ }
+{
+    narrow(v) * a
+}
+
+// Each sample, narrowed and scaled.
+fn scale_into(xs: &[f64], a: f32, out: &mut [f32])
+    requires { ⌜ length (now xs) ≡ length (now out) ⌝ }
+    ensures { λ _. ⌜ now (out .exit) ≡ map (scaled a) (now (xs .entry)) ⌝ }
+{
+    let mut i = 0;
+    while i < out.len() {
+        out[i] = scale(a, xs[i]);
+        i += 1;
+    }
+}
+
+fn copy(xs: &[f32], out: &mut [f32])
+    requires { ⌜ length (now xs) ≡ length (now out) ⌝ }
+    ensures { λ _. ⌜ now (out .exit) ≡ now (xs .entry) ⌝ }
+{
+    let mut i = 0;
+    while i < out.len() {
+        out[i] = xs[i];
+        i += 1;
+    }
+}
+
+fn lesser(a: usize, b: usize) -> usize
+    ensures { λ r. ⌜ r ≡ min a b ⌝ }
+{
+    if a < b { a } else { b }
+}
+
+// Hands over what is pending, as far as there is room, and says how much that is.
+fn hand_over(waiting: &[f32], out: &mut [f32]) -> usize
+    ensures { λ r. ⌜ HandsOver (now (waiting .entry)) (length (now (out .entry))) (now (out .exit)) r ⌝ }
+{
+    let n = out.len();
+    let count = lesser(n, waiting.len());
+    copy(&waiting[..count], &mut out[..count]);
+    count
+}
+
+// Hands over as much of what was made as the rest takes, and keeps the surplus in front of `pending`.
+fn share(xs: &[f64], a: f32, pending: &mut [f32], rest: &mut [f32]) -> usize
+    requires { ⌜ (length (now xs) ≤ length (now rest) + 64) × (length (now pending) ≡ 64) ⌝ }
+    ensures { λ r. ⌜ SharesInto (now (xs .entry)) a (length (now (rest .entry))) (now (rest .exit)) r (now (pending .exit)) ⌝ }
+{
+    let k = xs.len();
+    let n = rest.len();
+    let count = lesser(n, k);
+    scale_into(&xs[..count], a, &mut rest[..count]);
+    let surplus = k - count;
+    scale_into(&xs[count..], a, &mut pending[..surplus]);
+    count
+}
+
+// ---- a pass
+
+// How many samples at 8,000 Hz a pass for n samples generates.
+fn need_for(n: usize, rate: u32) -> usize
+    requires { ⌜ (8000 ≤ rate) × (n ≤ 1024) ⌝ }
+    ensures { λ r. ⌜ r ≡ need n rate ⌝ }
+{
+    ceiling((n as u64) * 8000, rate as u64) as usize + 1
+}
+
+// How many samples the resampler can make of k, between unequal rates.
+fn room_for(k: usize, rate: u32) -> usize
+    requires { ⌜ (8000 < rate) × (rate ≤ 48000) × (k ≤ 1025) ⌝ }
+    ensures { λ r. ⌜ r ≡ maxOutputLen 8000 rate k ⌝ }
+{
+    nearest((k as u64) * (rate as u64), 8000) as usize + 2
+}
+
+fn count_in(c: Counted) -> usize
+    ensures { λ r. ⌜ r ≡ countIn c ⌝ }
+{
+    match c {
+        Counted::Count(n) => n,
+        Counted::Refused(_) => 0,
+    }
+}
+
+struct Made {
+    count: usize,
+    wave: Wave,
+    resampler: Resampler,
+}
+
+// Generates as many samples as `scratch` has places, and resamples them to the front of `out`.
+fn make(
+    bits: &[bool; 4096],
+    t: TonePair,
+    w: Wave,
+    r: Resampler,
+    scratch: &mut [f64],
+    out: &mut [f64],
+) -> Made
+    requires { ⌜ BitsHeld (now bits) (w .head) (w .waiting) × Sound r × (length (now scratch) ≤ 2048) × (length (now out) ≡ maxOutputLen (r .«src_rate») (r .«dst_rate») (length (now scratch))) ⌝ }
+    ensures { λ m. ⌜ MakesInto (now (bits .entry)) t w r (length (now (scratch .entry))) (now (out .exit)) (m .count) (m .wave) (m .resampler) ⌝ }
+{
+    let wave = generate(bits, t, w, scratch);
+    let p = r.process(scratch, out);
+    let resampler = p.state;
+    let answer = p.answer;
+    let count = count_in(answer);
+    Made {
+        count,
+        wave,
+        resampler,
+    }
+}
+
+// What a pass reads of the sender and leaves as it is.
+struct Settings {
+    rate: u32,
+    tones: TonePair,
+    amplitude: f32,
+}
+
+// How many samples a pass wrote, how many are pending after it, and what moved.
+struct Passed {
+    count: usize,
+    upto: usize,
+    wave: Wave,
+    resampler: Resampler,
+}
+
+// A pass in arrays of the length that it needs.
+fn pass_in(
+    bits: &[bool; 4096],
+    s: Settings,
+    w: Wave,
+    r: Resampler,
+    scratch: &mut [f64],
+    out: &mut [f64],
+    pending: &mut [f32],
+    rest: &mut [f32],
+) -> Passed
+    requires { ⌜ BitsHeld (now bits) (w .head) (w .waiting) × Rising (s .rate) r × (length (now rest) ≤ 1024) × (length (now pending) ≡ 64) ⌝ }
+    requires { ⌜ (length (now scratch) ≡ need (length (now rest)) (s .rate)) × (length (now out) ≡ maxOutputLen 8000 (s .rate) (need (length (now rest)) (s .rate))) ⌝ }
+    ensures { λ p. ⌜ PassesInto (modulatorBy (now (bits .entry)) s w r) (length (now (rest .entry))) (now (bits .entry)) (now (rest .exit)) (p .count) (now (pending .exit)) (p .upto) (p .wave) (p .resampler) ⌝ }
+{
+    let t = s.tones;
+    let m = make(bits, t, w, r, scratch, out);
+    let k = m.count;
+    let count = share(&out[..k], s.amplitude, pending, rest);
+    let wave = m.wave;
+    let resampler = m.resampler;
+    Passed {
+        count,
+        upto: k - count,
+        wave,
+        resampler,
+    }
+}
+
+fn zeros_80() -> [f64; 80]
+    ensures { λ r. ⌜ length r ≡ 80 ⌝ }
+{
+    [0.0f64; 80]
+}
+
+fn zeros_1040() -> [f64; 1040]
+    ensures { λ r. ⌜ length r ≡ 1040 ⌝ }
+{
+    [0.0f64; 1040]
+}
+
+// A pass over a short rest: small arrays are soon cleared.
+fn pass_short(
+    bits: &[bool; 4096],
+    s: Settings,
+    w: Wave,
+    r: Resampler,
+    pending: &mut [f32],
+    rest: &mut [f32],
+) -> Passed
+    requires { ⌜ BitsHeld (now bits) (w .head) (w .waiting) × Rising (s .rate) r × (8000 < s .rate) × (length (now rest) ≤ 64) × (length (now pending) ≡ 64) ⌝ }
+    ensures { λ p. ⌜ PassesInto (modulatorBy (now (bits .entry)) s w r) (length (now (rest .entry))) (now (bits .entry)) (now (rest .exit)) (p .count) (now (pending .exit)) (p .upto) (p .wave) (p .resampler) ⌝ }
+{
+    let n = rest.len();
+    let k = need_for(n, s.rate);
+    let room = room_for(k, s.rate);
+    let mut scratch = zeros_80();
+    let mut out = zeros_80();
+    pass_in(
+        bits,
+        s,
+        w,
+        r,
+        &mut scratch[..k],
+        &mut out[..room],
+        pending,
+        rest,
+    )
+}
+
+// A pass over any rest.
+fn pass_long(
+    bits: &[bool; 4096],
+    s: Settings,
+    w: Wave,
+    r: Resampler,
+    pending: &mut [f32],
+    rest: &mut [f32],
+) -> Passed
+    requires { ⌜ BitsHeld (now bits) (w .head) (w .waiting) × Rising (s .rate) r × (8000 < s .rate) × (length (now rest) ≤ 1024) × (length (now pending) ≡ 64) ⌝ }
+    ensures { λ p. ⌜ PassesInto (modulatorBy (now (bits .entry)) s w r) (length (now (rest .entry))) (now (bits .entry)) (now (rest .exit)) (p .count) (now (pending .exit)) (p .upto) (p .wave) (p .resampler) ⌝ }
+{
+    let n = rest.len();
+    let k = need_for(n, s.rate);
+    let room = room_for(k, s.rate);
+    let mut scratch = zeros_1040();
+    let mut out = zeros_1040();
+    pass_in(
+        bits,
+        s,
+        w,
+        r,
+        &mut scratch[..k],
+        &mut out[..room],
+        pending,
+        rest,
+    )
+}
+
+// One pass over the unwritten rest of the caller's slice.
+fn pass(
+    bits: &[bool; 4096],
+    s: Settings,
+    w: Wave,
+    r: Resampler,
+    pending: &mut [f32],
+    rest: &mut [f32],
+) -> Passed
+    requires { ⌜ BitsHeld (now bits) (w .head) (w .waiting) × Rising (s .rate) r × (8000 < s .rate) × (length (now rest) ≤ 1024) × (length (now pending) ≡ 64) ⌝ }
+    ensures { λ p. ⌜ PassesInto (modulatorBy (now (bits .entry)) s w r) (length (now (rest .entry))) (now (bits .entry)) (now (rest .exit)) (p .count) (now (pending .exit)) (p .upto) (p .wave) (p .resampler) ⌝ }
+{
+    if rest.len() <= 64 {
+        return pass_short(bits, s, w, r, pending, rest);
+    }
+    pass_long(bits, s, w, r, pending, rest)
+}
+
+// Fills the slice with samples at 8,000 Hz, narrowed and scaled.
+fn generate_scaled(bits: &[bool; 4096], t: TonePair, w: Wave, a: f32, out: &mut [f32]) -> Wave
+    requires { ⌜ BitsHeld (now bits) (w .head) (w .waiting) ⌝ }
+    ensures { λ r. ⌜ sound (now (out .exit)) (keyerOf (now (bits .entry)) r) ≡ scaledSound a (generated (length (now (out .entry))) t (keyerOf (now (bits .entry)) w)) ⌝ }
+    ensures { λ r. ⌜ BitsHeld (now (bits .entry)) (r .head) (r .waiting) ⌝ }
+{
+    let mut wave = w;
+    let mut i = 0;
+    while i < out.len() {
+        let s = step(bits, t, wave);
+        out[i] = scale(a, s.value);
+        wave = s.wave;
+        i += 1;
+    }
+    wave
+}
+
+// ---- a whole slice
+
+// What `read` answers, in how many passes, and the state.
+pub struct Reading {
+    pub answer: Acceptance,
+    pub passes: usize,
+    pub state: Tx,
+}
+
+// At a rate of 8,000 nothing is resampled: what is pending, then one pass, which makes a sample more than the slice has places for.
+fn fill_equal(t: Tx, out: &mut [f32]) -> Reading
+    requires { ⌜ TxSound t × (t .rate ≡ 8000) × (length (now out) ≤ 1024) × (t .served + length (now out) ≤ 4294967296) ⌝ }
+    ensures { λ r. ⌜ FillsWhole t (length (now (out .entry))) (now (out .exit)) (r .answer) (r .passes) (r .state) ⌝ }
+{
+    let bits = t.bits;
+    let tones = t.tones;
+    let w = t.wave;
+    let resampler = t.resampler;
+    let mut pending = t.pending;
+    let from = t.from;
+    let upto = t.upto;
+    let n = out.len();
+    let served = t.served + n as u64;
+    let written = hand_over(&pending[from..upto], out);
+    if n <= written {
+        let state = Tx {
+            rate: t.rate,
+            tones,
+            bits,
+            wave: w,
+            resampler,
+            pending,
+            from: from + written,
+            upto,
+            amplitude: t.amplitude,
+            served,
+        };
+        return Reading {
+            answer: Acceptance::Accepted,
+            passes: 1,
+            state,
+        };
+    }
+    let wave = generate_scaled(&bits, tones, w, t.amplitude, &mut out[written..]);
+    let s = step(&bits, tones, wave);
+    pending[0] = scale(t.amplitude, s.value);
+    let last = s.wave;
+    let state = Tx {
+        rate: t.rate,
+        tones,
+        bits,
+        wave: last,
+        resampler,
+        pending,
+        from: 0,
+        upto: 1,
+        amplitude: t.amplitude,
+        served,
+    };
+    Reading {
+        answer: Acceptance::Accepted,
+        passes: 2,
+        state,
+    }
+}
+
+// At higher rates: what is pending, then passes over the unwritten rest of the slice, until it is full.
+fn fill_rising(t: Tx, out: &mut [f32]) -> Reading
+    requires { ⌜ TxSound t × (8000 < t .rate) × (length (now out) ≤ 1024) × (t .served + length (now out) ≤ 4294967296) ⌝ }
+    ensures { λ r. ⌜ FillsWhole t (length (now (out .entry))) (now (out .exit)) (r .answer) (r .passes) (r .state) ⌝ }
+{
+    let bits = t.bits;
+    let tones = t.tones;
+    let settings = Settings {
+        rate: t.rate,
+        tones,
+        amplitude: t.amplitude,
+    };
+    let mut pending = t.pending;
+    let mut wave = t.wave;
+    let mut resampler = t.resampler;
+    let start = t.from;
+    let mut upto = t.upto;
+    let mut written = hand_over(&pending[start..upto], out);
+    let mut from = start + written;
+    let mut passes = 1usize;
+    while written < out.len() {
+        let p = pass(
+            &bits,
+            settings,
+            wave,
+            resampler,
+            &mut pending,
+            &mut out[written..],
+        );
+        wave = p.wave;
+        resampler = p.resampler;
+        from = 0;
+        upto = p.upto;
+        written += p.count;
+        passes += 1;
+    }
+    let state = Tx {
+        rate: t.rate,
+        tones,
+        bits,
+        wave,
+        resampler,
+        pending,
+        from,
+        upto,
+        amplitude: t.amplitude,
+        served: t.served + out.len() as u64,
+    };
+    Reading {
+        answer: Acceptance::Accepted,
+        passes,
+        state,
+    }
+}
+
+// ---- the public functions
+
+// What `new` answers, and the state; refused, it gives the one at 8,000.
+pub struct Created {
+    pub answer: Acceptance,
+    pub state: Tx,
+}
+
+// What `set_amplitude` answers, and the state.
+pub struct Adjusted {
+    pub answer: Acceptance,
+    pub state: Tx,
+}
+
+fn falses() -> [bool; 4096]
+    ensures { λ r. ⌜ length r ≡ 4096 ⌝ }
+{
+    [false; 4096]
+}
+
+fn silence() -> [f32; 64]
+    ensures { λ r. ⌜ length r ≡ 64 ⌝ }
+{
+    [0.0f32; 64]
+}
+
+// A fresh sender on an admitted rate.
+fn fresh_at(rate: u32, role: Role) -> Tx
+    requires { ⌜ rateRefused rate ≡ false ⌝ }
+    ensures { λ r. ⌜ (senderOf r ≡ freshSender rate role) × TxSound r ⌝ }
+{
+    let c = Resampler::new(DSP_RATE, rate);
+    let resampler = c.state;
+    let pair = tones(role);
+    let nco = Nco::new(pair.mark, DSP_RATE as f64);
+    let wave = Wave {
+        nco,
+        sym_pos: 0.0,
+        current: true,
+        head: 0,
+        waiting: 0,
+    };
+    let bits = falses();
+    let pending = silence();
+    Tx {
+        rate,
+        tones: pair,
+        bits,
+        wave,
+        resampler,
+        pending,
+        from: 0,
+        upto: 0,
+        amplitude: 1.0,
+        served: 0,
+    }
+}
+
+// The first check that a read does not pass.
+fn check(n: usize, served: u64) -> Acceptance
+    requires { ⌜ served ≤ 4294967296 ⌝ }
+    ensures { λ r. ⌜ acceptanceOf r ≡ replyOf (readRefused served n) ⌝ }
+{
+    if 1024 < n {
+        return Acceptance::Refused(Refusal::TooManySamples);
+    }
+    if 4294967296 < served + n as u64 {
+        return Acceptance::Refused(Refusal::OutOfSamples);
+    }
+    Acceptance::Accepted
+}
+
+fn is_accepted(a: Acceptance) -> bool
+    ensures { λ r. ⌜ r ≡ isAccepted a ⌝ }
+{
+    match a {
+        Acceptance::Accepted => true,
+        Acceptance::Refused(_) => false,
+    }
+}
+
+// Whether the amplitude is in 0 to 1.
+fn amplitude_ok(a: f32) -> bool
+    ensures { λ r. ⌜ not r ≡ amplitudeRefused a ⌝ }
+{
+    if a >= 0.0 { a <= 1.0 } else { false }
+}
+
+impl Tx {
+    pub fn new(rate: u32, role: Role) -> Created
+        ensures { λ r. ⌜ (made (acceptanceOf (r .answer)) (senderOf (r .state)) ≡ newOf rate role) × TxSound (r .state) ⌝ }
+    {
+        if rate_ok(rate) {
+            let state = fresh_at(rate, role);
+            return Created {
+                answer: Acceptance::Accepted,
+                state,
+            };
+        }
+        let state = fresh_at(DSP_RATE, role);
+        Created {
+            answer: Acceptance::Refused(Refusal::Rate),
+            state,
+        }
+    }
+
+    // Fills the slice whole with the next samples at the device's rate, holding mark when idle.
+    pub fn read(self, out: &mut [f32]) -> Reading
+        requires { ⌜ TxSound self ⌝ }
+        ensures { λ r. ⌜ (reading (acceptanceOf (r .answer)) (senderOf (r .state)) (now (out .exit)) ≡ readOf (senderOf self) (now (out .entry))) × TxSound (r .state) × (r .passes ≤ length (now (out .entry)) + 2) ⌝ }
+    {
+        let answer = check(out.len(), self.served);
+        if !is_accepted(answer) {
+            return Reading {
+                answer,
+                passes: 0,
+                state: self,
+            };
+        }
+        if self.rate == DSP_RATE {
+            return fill_equal(self, out);
+        }
+        fill_rising(self, out)
+    }
+
+    // Whether bits wait.
+    pub fn pending(self) -> bool
+        ensures { λ r. ⌜ r ≡ pendingOf (senderOf self) ⌝ }
+    {
+        let w = self.wave;
+        0 < w.waiting
+    }
+
+    // Scales everything that the sender makes from now on.
+    pub fn set_amplitude(self, amplitude: f32) -> Adjusted
+        requires { ⌜ TxSound self ⌝ }
+        ensures { λ r. ⌜ (adjusted (acceptanceOf (r .answer)) (senderOf (r .state)) ≡ amplitudeOf (senderOf self) amplitude) × TxSound (r .state) ⌝ }
+    {
+        if amplitude_ok(amplitude) {
+            let mut state = self;
+            state.amplitude = amplitude;
+            return Adjusted {
+                answer: Acceptance::Accepted,
+                state,
+            };
+        }
+        Adjusted {
+            answer: Acceptance::Refused(Refusal::Amplitude),
+            state: self,
+        }
+    }
+
+    // How many samples n bits last at the sender's rate.
+    pub fn samples_for_bits(self, n: usize) -> Counted
+        requires { ⌜ TxSound self ⌝ }
+        ensures { λ r. ⌜ countOf r ≡ durationOf (senderOf self) n ⌝ }
+    {
+        if 1048576 < n {
+            return Counted::Refused(Refusal::TooManyBits);
+        }
+        Counted::Count(nearest((n as u64) * (self.rate as u64), BAUD as u64) as usize)
+    }
+}

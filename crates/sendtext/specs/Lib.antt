@@ -1,0 +1,4 @@
+-- What `send` is asked for and what it writes.
+pub mod Words
+pub mod Header
+pub mod Call

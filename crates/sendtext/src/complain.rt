@@ -1,0 +1,20 @@
+// One clear line on standard error.
+use crate::words::Unclear;
+
+pub fn of_words(why: Unclear) {
+    match why {
+        Unclear::Count => {
+            io::write_all(2, b"send: the words are ROLE RATE\n");
+        }
+        Unclear::Role => {
+            io::write_all(2, b"send: ROLE is originate or answer\n");
+        }
+        Unclear::Rate => {
+            io::write_all(2, b"send: RATE is a number from 8000 to 48000\n");
+        }
+    }
+}
+
+pub fn of_text() {
+    io::write_all(2, b"send: the text is longer than 65535 bytes\n");
+}

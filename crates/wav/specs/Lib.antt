@@ -1,0 +1,5 @@
+-- The definitions that the contracts of `wav` cite, and the theorems about whole recordings.
+pub mod Sample
+pub mod Wav
+pub mod Recording
+pub mod Recorded

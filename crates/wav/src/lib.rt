@@ -1,0 +1,15 @@
+// WAV recordings, read byte by byte: the rate, then the samples of the first channel.
+//
+//   wav       the reader                                   specs/Wav.antt
+//   sample    samples from their bytes                     specs/Sample.antt
+//
+// What a reader makes of a whole recording: specs/Recording.antt.
+mod sample;
+mod wav;
+
+pub use wav::End;
+pub use wav::Fault;
+pub use wav::Out;
+pub use wav::Place;
+pub use wav::Step;
+pub use wav::Wav;
