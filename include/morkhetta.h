@@ -3,9 +3,10 @@
  *
  * Each function runs a whole list of calls from a fresh state and keeps nothing
  * afterwards. What it answers, and all memory that it is lent, are proved equal
- * to a definition in crates/ffi/specs for every argument; the text below says
- * that definition in words. A function never fails, and any number may be
- * passed. The host answers for the pointers alone:
+ * to a definition for every argument (specs/ of the crates calls, states,
+ * sendcalls and ffi); the text below says that definition in words. A function
+ * never fails, and any number may be passed. The host answers for the pointers
+ * alone:
  *
  *   - a slice is a pointer and then its number of elements;
  *   - the pointer is not NULL and is aligned for its type, also where the number
