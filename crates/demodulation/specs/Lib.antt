@@ -3,4 +3,3 @@ pub mod Demod
 pub mod DemodLaws
 pub mod Summing
 pub mod SummingLaws
-pub mod Waves

@@ -1,15 +1,16 @@
 // Cosine and sine of the two tones' phases. A series is seven divisions, each of which waits for the one before it: the cosine's and the
 // sine's go side by side.
-use numeric::sine::PI;
-use numeric::sine::TAU;
+use numeric::sine::QUARTER;
 use numeric::sine::cosine;
+use numeric::sine::fold;
 use numeric::sine::sine;
+use numeric::sines::is_beyond;
+use numeric::sines::lower;
+use numeric::sines::series_pair;
+use numeric::sines::sign;
+use numeric::sines::wrap;
 ghost use mathlib.Core.Path.{_≡_};
-ghost use Rattle.numeric.specs.Sine.{folded, series, sineOf, cosineOf};
-ghost use Rattle.demodulation.specs.Waves.{wrapped, lowered, signed, beyond};
-
-// PI / 2.0, and TAU / 4.0.
-const QUARTER: f64 = 1.5707963267948966;
+ghost use Rattle.numeric.specs.Sine.{sineOf, cosineOf};
 
 // The mark's cosine and sine, and the space's.
 pub struct Quadrature {
@@ -17,72 +18,6 @@ pub struct Quadrature {
     pub mark_q: f64,
     pub space_i: f64,
     pub space_q: f64,
-}
-
-// Two series.
-struct Pair {
-    first: f64,
-    second: f64,
-}
-
-fn wrap(x: f64) -> f64
-    ensures { λ r. ⌜ r ≡ wrapped x ⌝ }
-{
-    if x >= TAU { x - TAU } else { x }
-}
-
-fn lower(x: f64) -> f64
-    ensures { λ r. ⌜ r ≡ lowered x ⌝ }
-{
-    if x >= PI { x - PI } else { x }
-}
-
-fn fold(x: f64) -> f64
-    ensures { λ r. ⌜ r ≡ folded x ⌝ }
-{
-    if x > QUARTER { PI - x } else { x }
-}
-
-fn sign(x: f64, v: f64) -> f64
-    ensures { λ r. ⌜ r ≡ signed x v ⌝ }
-{
-    if x >= PI { -v } else { v }
-}
-
-// Whether one turn less is not all that x needs to be within one turn, where y is x wrapped.
-fn is_beyond(x: f64, y: f64) -> bool
-    ensures { λ r. ⌜ r ≡ beyond x y ⌝ }
-{
-    if x < 0.0 {
-        return true;
-    }
-    y >= TAU
-}
-
-// The series of x, and that of y.
-fn series_pair(x: f64, y: f64) -> Pair
-    ensures { λ r. ⌜ (r .first ≡ series x) × (r .second ≡ series y) ⌝ }
-{
-    let t = x * x;
-    let u = y * y;
-    let mut h = 1.0 - t * 1.0 / 210.0;
-    let mut k = 1.0 - u * 1.0 / 210.0;
-    h = 1.0 - t * h / 156.0;
-    k = 1.0 - u * k / 156.0;
-    h = 1.0 - t * h / 110.0;
-    k = 1.0 - u * k / 110.0;
-    h = 1.0 - t * h / 72.0;
-    k = 1.0 - u * k / 72.0;
-    h = 1.0 - t * h / 42.0;
-    k = 1.0 - u * k / 42.0;
-    h = 1.0 - t * h / 20.0;
-    k = 1.0 - u * k / 20.0;
-    h = 1.0 - t * h / 6.0;
-    k = 1.0 - u * k / 6.0;
-    Pair {
-        first: x * h,
-        second: y * k,
-    }
 }
 
 // Each by itself.

@@ -3,7 +3,7 @@ use Prim.Native.Nat.{ℕ, zero, suc, _+_, _-_, _*_, _/_, _%_, _^_, _<_, _≤_, z
 use mathlib.Core.Path.{_≡_, refl, sym, ap, _∙_, subst}
 use mathlib.Core.Logic.{inl, inr}
 use mathlib.Core.Bool.{Bool, true, false, not, cond, _&&_, true≢false, false≢true}
-use native.Mathlib.Nat.{le-trans, le-of-eq, le-refl, lt-irrefl, lt-of-lt-of-le, lt-of-le-of-lt, lt-of-not-le, not-le-of-lt, le-of-suc-le-suc, zero-lt-suc, mul-one, one-mul, mul-assoc, mul-comm, mul-left-comm, mul-le-mul-right, mul-le-mul-left, div-lt-iff-lt-mul, le-div-iff-mul-le, mul-div-mul-right, mul-div-cancel, mul-add-div-right, mul-add-mod-self-right, div-eq-of-lt, mod-eq-of-lt, mul-pos, eq-or-lt-of-le, pow-succ'}
+use native.Mathlib.Nat.{le-trans, le-of-eq, le-refl, lt-irrefl, lt-of-lt-of-le, lt-of-le-of-lt, lt-of-not-le, not-le-of-lt, le-of-suc-le-suc, zero-lt-suc, mul-one, one-mul, mul-assoc, mul-comm, mul-left-comm, mul-le-mul-right, mul-le-mul-left, div-lt-iff-lt-mul, le-div-iff-mul-le, mul-div-mul-right, mul-div-cancel, mul-add-div-right, mul-add-mod-self-right, div-eq-of-lt, mod-eq-of-lt, mul-pos, eq-or-lt-of-le, eq-zero-or-pos, pow-succ'}
 use native.Mathlib.Omega.{arith}
 use borrow.Author.Tests.{le-leb, lt-leb, eq-eqb, ne-eqb}
 use lib.Dec.{T, isLe, isEq, ltb, leb, eqb, ltb→lt, leb→le, eqb→eq, nltb→le, nleb→lt, lit<, lit≤}
@@ -45,6 +45,40 @@ cmp-gt a b h = go (compare a b) (lt-leb a b h)
     go Ordering·lt l = absurd (true≢false l)
     go Ordering·eq l = absurd (true≢false l)
     go Ordering·gt l = refl
+
+-- ---- rounding: half a unit less is added, and one more where the quotient is odd
+module _ (d : ℕ) where
+  abbrev quotient : ℕ
+  quotient = d / 0x2000_0000
+
+  abbrev added : ℕ
+  added = (d + 0xFFF_FFFF + d / 0x2000_0000 % 2) / 0x2000_0000
+
+  down-to : d % 0x2000_0000 * 2 < 0x2000_0000 → added ≡ quotient
+  down-to h = omega arith
+
+  even-to : d % 0x2000_0000 * 2 ≡ 0x2000_0000 → added ≡ quotient + quotient % 2
+  even-to h = omega arith
+
+  up-to : 0x2000_0000 < d % 0x2000_0000 * 2 → added ≡ suc quotient
+  up-to h = omega arith
+
+  at-least : 0x2000_0000 - d % 0x2000_0000 * 2 ≡ 0 → 0x2000_0000 ≤ d % 0x2000_0000 * 2
+  at-least z = omega arith
+
+  at-most : 0 < 0x2000_0000 - d % 0x2000_0000 * 2 → d % 0x2000_0000 * 2 < 0x2000_0000
+  at-most p = omega arith
+
+  pub rounded : added ≡ closest d 0x2000_0000
+  rounded =
+      elim (eq-zero-or-pos (0x2000_0000 - d % 0x2000_0000 * 2)) [
+        | inl z ↦
+            elim (eq-or-lt-of-le (at-least z)) [
+              | inl e ↦ even-to (sym e) ∙ sym (ap (nearest quotient) (cmp-eq _ _ (sym e)))
+              | inr l ↦ up-to l ∙ sym (ap (nearest quotient) (cmp-gt _ _ l))
+            ]
+        | inr p ↦ down-to (at-most p) ∙ sym (ap (nearest quotient) (cmp-lt _ _ (at-most p)))
+      ]
 
 -- ---- how many digits
 size-shr : (n j : ℕ) → size (n / 2 ^ j) ≡ size n - j

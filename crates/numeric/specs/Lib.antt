@@ -3,6 +3,7 @@
 -- Fold, Tested, Loops and Parts: lists, tests and loops, for all crates.
 pub mod F64
 pub mod Sine
+pub mod Sines
 pub mod Root
 pub mod Convert
 pub mod Patterns

@@ -31,13 +31,21 @@ fn nearest_even(d: u64, u: u64) -> u64
     }
 }
 
+// The same for u = 2 ^ 29, without a branch: what is cut off a sample is as good as random.
+fn nearest_even_29(d: u64) -> u64
+    requires { ⌜ d < 2 ^ 63 ⌝ }
+    ensures { λ r. ⌜ r ≡ closest d 0x2000_0000 ⌝ }
+{
+    (d + 0xFFF_FFFF + d / 0x2000_0000 % 2) / 0x2000_0000
+}
+
 // The digits that an f32 keeps of an f64's bits, whose sign is off: see specs/Patterns.antt.
 fn kept_digits(b: u64) -> u64
     requires { ⌜ b < 2 ^ 63 ⌝ }
     ensures { λ r. ⌜ r ≡ digits b ⌝ }
 {
     if 0x3810_0000_0000_0000 <= b {
-        nearest_even(b - 0x3800_0000_0000_0000, 0x2000_0000)
+        nearest_even_29(b - 0x3800_0000_0000_0000)
     } else if 0x3680_0000_0000_0000 <= b {
         nearest_even(
             b % 0x10_0000_0000_0000 + 0x10_0000_0000_0000,

@@ -2,6 +2,7 @@
 //
 //   compare   maximum, absolute                     specs/F64.antt
 //   sine      sine, cosine, TAU, PI                 specs/Sine.antt
+//   sines     two sines side by side                specs/Sines.antt
 //   root      root, for `hypot`                     specs/Root.antt
 //   convert   widen, narrow, in_range               specs/Convert.antt
 //   counts    nearest, ceiling: rounded quotients   specs/Counts.antt
@@ -14,3 +15,4 @@ pub mod convert;
 pub mod counts;
 pub mod root;
 pub mod sine;
+pub mod sines;

@@ -7,7 +7,7 @@ pub const TAU: f64 = 6.283185307179586;
 pub const PI: f64 = 3.141592653589793;
 
 // PI / 2.0, and TAU / 4.0.
-const QUARTER: f64 = 1.5707963267948966;
+pub const QUARTER: f64 = 1.5707963267948966;
 
 // x less whole turns: at most 64 of them, and 0.0 if that is not enough.
 fn reduce(x: f64) -> f64
@@ -27,7 +27,7 @@ fn reduce(x: f64) -> f64
 }
 
 // The x of the first quarter that has the same sine.
-fn fold(x: f64) -> f64
+pub fn fold(x: f64) -> f64
     ensures { λ r. ⌜ r ≡ folded x ⌝ }
 {
     if x > QUARTER { PI - x } else { x }

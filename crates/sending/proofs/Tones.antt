@@ -1,22 +1,22 @@
 -- A symbol, a sample and a slice of samples at 8,000 Hz, from what the code's parts ensure. Assumes nothing.
 use Prim.Native.Nat.{ℕ, zero, suc, _+_, _-_, _<_, _≤_}
-use mathlib.Core.Path.{_≡_, refl, sym, ap, _∙_}
+use mathlib.Core.Path.{_≡_, refl, sym, ap, ap₂, _∙_}
 use mathlib.Core.Bool.{Bool, true, false}
 use mathlib.Core.List.{List, [], _∷_, _++_, append-assoc, append-nil}
 use native.Mathlib.Numerals.{add-one}
 use native.Mathlib.Omega.{arith}
-use lib.ListN.{length, set, take}
+use lib.ListN.{length, set, take, length-set}
 use lib.Seq.{take-suc-set, take-all}
 use lib.Ieee.{Float}
 use Rattle.numeric.specs.F64.{_⊕_, _⊖_, _⊘_, _≤ᶠ_, one64}
+use Rattle.numeric.specs.Sine.{sineOf}
 use Rattle.bitqueue.specs.Bits.{queued, Takes}
 use Rattle.bell103.specs.Roles.{samplesPerSymbol}
-use Rattle.bell103.specs.Nco.{ncoSetFreq, ncoNext}
+use Rattle.bell103.specs.Nco.{turned, ncoSetFreq, ncoNext}
 use Rattle.bitqueue.specs.declared.Taken.{Taken}
 use Rattle.bell103.specs.declared.TonePair.{TonePair}
 use Rattle.bell103.specs.declared.nco.Nco.{Nco}
-use Rattle.bell103.specs.declared.nco.Tone.{Tone}
-use Rattle.sending.specs.Tone.{Keyer, keyer, toneOf, struck, clocked, Tick, tick, ticked, Sound, sound, generated}
+use Rattle.sending.specs.Tone.{Keyer, keyer, toneOf, struck, clocked, Tick, tick, ticked, TicksTwice, Sound, sound, generated}
 
 pub struck-is : (a : List Bool) (h n : ℕ) (t : TonePair) (nco tuned : Nco) (pos freq : Float) (k : Taken) → Takes a h n k → freq ≡ toneOf t (k .bit)
     → tuned ≡ ncoSetFreq nco freq → keyer tuned pos (k .bit) (queued a (k .head) (k .waiting)) ≡ struck t nco pos (queued a h n)
@@ -24,14 +24,31 @@ unfolding struck
 struck-is a h n t nco tuned pos freq k u ef et = rw (et, ef, u .bit, u .rest)
 
 -- ---- a sample
-module _ (t : TonePair) (k : Keyer) (r : Tone) (d : Float) (e : r ≡ ncoNext (k .nco)) (ed : d ≡ samplesPerSymbol) where
-  pub tick-symbol : (k′ : Keyer) → one64 ≤ᶠ k .symPos ⊕ one64 ⊘ d ≡ true → k′ ≡ struck t (r .state) (k .symPos ⊕ one64 ⊘ d ⊖ one64) (k .bits) → tick (r .value) k′ ≡ ticked t k
-  unfolding ticked clocked
-  tick-symbol k′ w ek = rw (← e, ← ed, w, ek)
+module _ (t : TonePair) (k : Keyer) (p d : Float) (e : p ≡ turned (k .nco .phase) (k .nco .inc)) (ed : d ≡ samplesPerSymbol) where
+  abbrev on : Nco
+  on = record { phase = p; inc = k .nco .inc; «sample_rate» = k .nco .«sample_rate» }
 
-  pub tick-on : one64 ≤ᶠ k .symPos ⊕ one64 ⊘ d ≡ false → tick (r .value) (keyer (r .state) (k .symPos ⊕ one64 ⊘ d) (k .current) (k .bits)) ≡ ticked t k
-  unfolding ticked clocked
-  tick-on w = rw (← e, ← ed, w)
+  pub after-symbol : (k′ : Keyer) → one64 ≤ᶠ k .symPos ⊕ one64 ⊘ d ≡ true → k′ ≡ struck t on (k .symPos ⊕ one64 ⊘ d ⊖ one64) (k .bits) → k′ ≡ ticked t k .after
+  unfolding ticked clocked ncoNext
+  after-symbol k′ w ek = rw (← e, ← ed, w, ek)
+
+  pub after-on : one64 ≤ᶠ k .symPos ⊕ one64 ⊘ d ≡ false → keyer on (k .symPos ⊕ one64 ⊘ d) (k .current) (k .bits) ≡ ticked t k .after
+  unfolding ticked clocked ncoNext
+  after-on w = rw (← e, ← ed, w)
+
+module _ (t : TonePair) (k k′ : Keyer) (v : Float) (e : k′ ≡ ticked t k .after) (ev : v ≡ sineOf (k .nco .phase)) where
+  pub once : tick v k′ ≡ ticked t k
+  unfolding ticked ncoNext
+  once = ap₂ tick ev e
+
+  pub twice : (k″ : Keyer) (v′ : Float) → k″ ≡ ticked t k′ .after → v′ ≡ sineOf (k′ .nco .phase) → TicksTwice t k v v′ k″
+  unfolding ticked ncoNext
+  twice k″ v′ e′ ev′ =
+      record {
+        first = ev;
+        second = ev′ ∙ ap (λ (x : Keyer). sineOf (x .nco .phase)) e;
+        after = e′ ∙ ap (λ (x : Keyer). ticked t x .after) e;
+      }
 
 -- ---- a slice of samples
 left-turn : (n i : ℕ) → i < n → n - i ≡ suc (n - (i + 1))
@@ -58,6 +75,16 @@ module _ (f : Float → Float) (F : List Float → List Float) (nil : F [] ≡ [
       let ev : y ≡ f (ticked t k .value) = ey ∙ ap (λ (t : Tick). f (t .value)) e in
       let ek : k′ ≡ ticked t k .after = ap (λ (t : Tick). t .after) e in
       rw (left-turn n i h, cons, ← ev, ← ek, add-one, take-suc-set out i y l, append-assoc)
+
+  -- two samples
+  pub sound-two : (out : List Float) (i : ℕ) (k : Keyer) (v v′ : Float) (k″ : Keyer) (y y′ : Float) → i + 1 < n → i + 1 < length out → TicksTwice t k v v′ k″ → y ≡ f v
+      → y′ ≡ f v′ → soundAt F (set (set out i y) (i + 1) y′) (i + 2) n t k″ ≡ soundAt F out i n t k
+  sound-two out i k v v′ k″ y y′ h l w ey ey′ =
+      let z : i + 2 ≡ i + 1 + 1 = omega arith in
+      let l′ : i + 1 < length (set out i y) = rw (length-set out i y) l in
+      rw z
+      (sound-turn (set out i y) (i + 1) (ticked t k .after) v′ k″ y′ h l′ (ap₂ tick (w .second) (w .after)) ey′
+      ∙ sound-turn out i k v (ticked t k .after) y (omega arith) (omega arith) (ap (λ (x : Float). tick x (ticked t k .after)) (w .first)) ey)
 
   pub sound-done : (out : List Float) (i : ℕ) (k : Keyer) → length out ≡ n → length out ≤ i → sound out k ≡ soundAt F out i n t k
   unfolding generated

@@ -1,6 +1,7 @@
 -- The tones of the bits that wait (tx.rs: `next_symbol` and the inner loop of `read`): the oscillator, the symbol clock and the bits, at
 -- 8,000 Hz. Assumes nothing.
 use Prim.Native.Nat.{ℕ, zero, suc}
+use mathlib.Core.Path.{_≡_}
 use mathlib.Core.Bool.{Bool, true, false}
 use mathlib.Core.List.{List, [], _∷_}
 use lib.Ieee.{Float}
@@ -49,6 +50,12 @@ tick v k = record { value = v; after = k }
 unfoldable pub ticked : TonePair → Keyer → Tick
 ticked t k =
     tick (ncoNext (k .nco) .value) (clocked t (ncoNext (k .nco) .state) (k .symPos ⊕ symbolStep) (k .current) (k .bits))
+
+-- two samples, and the keyer after them
+pub record TicksTwice (t : TonePair) (k : Keyer) (v v′ : Float) (k″ : Keyer) : Type 0 where
+  pub first : v ≡ ticked t k .value
+  pub second : v′ ≡ ticked t (ticked t k .after) .value
+  pub after : k″ ≡ ticked t (ticked t k .after) .after
 
 -- n samples, and the keyer after them
 pub record Sound : Type 0 where

@@ -4,12 +4,15 @@ use bell103::BAUD;
 use bell103::Role;
 use bell103::TonePair;
 use bell103::nco::Nco;
+use bell103::nco::turn;
 use bell103::samples_per_symbol;
 use bell103::tones;
 use bitqueue::take_bit;
 use numeric::convert::narrow;
 use numeric::counts::ceiling;
 use numeric::counts::nearest;
+use numeric::sine::sine;
+use numeric::sines::sines;
 use refusal::Acceptance;
 use refusal::Counted;
 use refusal::DSP_RATE;
@@ -28,7 +31,7 @@ ghost use Rattle.refusal.specs.Refusals.{acceptanceOf, isAccepted, countOf, cou
 ghost use Rattle.bitqueue.specs.Bits.{queued, BitsHeld};
 ghost use Rattle.resampling.specs.Resample.{maxOutputLen};
 ghost use Rattle.resampling.specs.ResampleHeld.{stateOf, Sound};
-ghost use Rattle.sending.specs.Tone.{toneOf, struck, tick, ticked, sound, generated};
+ghost use Rattle.sending.specs.Tone.{toneOf, struck, tick, ticked, TicksTwice, sound, generated};
 ghost use Rattle.sending.specs.Tx.{modulator, scaled, scaledSound, passed, filled, freshSender, made, newOf, readRefused, reading, readOf, adjusted, amplitudeRefused, amplitudeOf, pendingOf, durationOf};
 ghost use Rattle.sending.specs.TxHeld.{keyerOf, modulatorBy, pendingIn, modulatorOf, senderOf, Rising, PendingHeld, TxSound, MakesInto, SharesInto, PassesInto, HandsOver, FillsWhole};
 
@@ -95,6 +98,31 @@ struct Ticked {
     wave: Wave,
 }
 
+// The oscillator and the symbol clock one sample on.
+fn advance(bits: &[bool; 4096], t: TonePair, w: Wave) -> Wave
+    requires { ⌜ BitsHeld (now bits) (w .head) (w .waiting) ⌝ }
+    ensures { λ r. ⌜ keyerOf (now (bits .entry)) r ≡ ticked t (keyerOf (now (bits .entry)) w) .after ⌝ }
+    ensures { λ r. ⌜ BitsHeld (now (bits .entry)) (r .head) (r .waiting) ⌝ }
+{
+    let nco = w.nco;
+    let on = Nco {
+        phase: turn(nco.phase, nco.inc),
+        inc: nco.inc,
+        sample_rate: nco.sample_rate,
+    };
+    let pos = w.sym_pos + 1.0 / samples_per_symbol();
+    if pos >= 1.0 {
+        return next_symbol(bits, t, on, pos - 1.0, w.head, w.waiting);
+    }
+    Wave {
+        nco: on,
+        sym_pos: pos,
+        current: w.current,
+        head: w.head,
+        waiting: w.waiting,
+    }
+}
+
 // One sample.
 fn step(bits: &[bool; 4096], t: TonePair, w: Wave) -> Ticked
     requires { ⌜ BitsHeld (now bits) (w .head) (w .waiting) ⌝ }
@@ -102,22 +130,33 @@ fn step(bits: &[bool; 4096], t: TonePair, w: Wave) -> Ticked
     ensures { λ r. ⌜ BitsHeld (now (bits .entry)) (r .wave .head) (r .wave .waiting) ⌝ }
 {
     let nco = w.nco;
-    let tone = nco.next();
-    let value = tone.value;
-    let on = tone.state;
-    let pos = w.sym_pos + 1.0 / samples_per_symbol();
-    if pos >= 1.0 {
-        let wave = next_symbol(bits, t, on, pos - 1.0, w.head, w.waiting);
-        return Ticked { value, wave };
-    }
-    let wave = Wave {
-        nco: on,
-        sym_pos: pos,
-        current: w.current,
-        head: w.head,
-        waiting: w.waiting,
-    };
+    let value = sine(nco.phase);
+    let wave = advance(bits, t, w);
     Ticked { value, wave }
+}
+
+struct TickedTwice {
+    first: f64,
+    second: f64,
+    wave: Wave,
+}
+
+// Two samples, their sines side by side.
+fn step_twice(bits: &[bool; 4096], t: TonePair, w: Wave) -> TickedTwice
+    requires { ⌜ BitsHeld (now bits) (w .head) (w .waiting) ⌝ }
+    ensures { λ r. ⌜ TicksTwice t (keyerOf (now (bits .entry)) w) (r .first) (r .second) (keyerOf (now (bits .entry)) (r .wave)) ⌝ }
+    ensures { λ r. ⌜ BitsHeld (now (bits .entry)) (r .wave .head) (r .wave .waiting) ⌝ }
+{
+    let nco = w.nco;
+    let between = advance(bits, t, w);
+    let later = between.nco;
+    let v = sines(nco.phase, later.phase);
+    let wave = advance(bits, t, between);
+    TickedTwice {
+        first: v.first,
+        second: v.second,
+        wave,
+    }
 }
 
 // Fills the slice with samples at 8,000 Hz.
@@ -395,11 +434,17 @@ fn generate_scaled(bits: &[bool; 4096], t: TonePair, w: Wave, a: f32, out: &mut 
 {
     let mut wave = w;
     let mut i = 0;
-    while i < out.len() {
+    while i + 1 < out.len() {
+        let s = step_twice(bits, t, wave);
+        out[i] = scale(a, s.first);
+        out[i + 1] = scale(a, s.second);
+        wave = s.wave;
+        i += 2;
+    }
+    if i < out.len() {
         let s = step(bits, t, wave);
         out[i] = scale(a, s.value);
-        wave = s.wave;
-        i += 1;
+        return s.wave;
     }
     wave
 }

@@ -1,6 +1,6 @@
 -- Where no phase is beyond its turn, each value is its steps'; else it is what `sine` and `cosine` ensure. Assumes nothing.
 use Rattle.numeric.specs.Sine.{cosineOf}
-use Rattle.demodulation.specs.Waves.{wave-is}
+use Rattle.numeric.specs.Sines.{wave-is}
 use borrow.Author.Needs.{needs}
 use Rattle.demodulation.proofs.waves.waves.Statement.{statement}
 use Rattle.demodulation.proofs.waves.waves.Tie as tie

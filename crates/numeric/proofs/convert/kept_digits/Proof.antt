@@ -9,17 +9,17 @@ use Rattle.numeric.proofs.Narrow.{unit, digits-normal, digits-small, di
 use Rattle.numeric.proofs.convert.kept_digits.Statement.{statement}
 use Rattle.numeric.proofs.convert.kept_digits.Tie as tie
 
-sub-nearest-even : tie.Need-sub-nearest-even
-sub-nearest-even c = search needs
+sub-nearest-even-29 : tie.Need-sub-nearest-even-29
+sub-nearest-even-29 c = search needs
 
-nearest-even-requires : tie.Need-nearest-even-requires
-nearest-even-requires c κs = search needs
+nearest-even-29-requires : tie.Need-nearest-even-29-requires
+nearest-even-29-requires c κs = search needs
 
 add-nearest-even : tie.Need-add-nearest-even
 add-nearest-even c = search needs
 
-sub-nearest-even-2 : tie.Need-sub-nearest-even-2
-sub-nearest-even-2 c = search needs
+sub-nearest-even : tie.Need-sub-nearest-even
+sub-nearest-even c = search needs
 
 shl-nearest-even : tie.Need-shl-nearest-even
 shl-nearest-even c = search needs
@@ -30,19 +30,19 @@ shift b h = omega arith
 low : (b : ℕ) → b % 0x10_0000_0000_0000 + 0x10_0000_0000_0000 < 2 ^ 63
 low b = omega arith
 
-nearest-even-requires-2 : tie.Need-nearest-even-requires-2
-nearest-even-requires-2 c κs =
+nearest-even-requires : tie.Need-nearest-even-requires
+nearest-even-requires c κs =
     let b = c .before .before .args .b in
     let e = unit (926 - b / 0x10_0000_0000_0000) (shift b (c .if2 .taken)) in
     (rw e (pow-pos _), (rw e (pow-mono (shift b (c .if2 .taken))), low b))
 
 returns : tie.Need-returns
-returns c = c .nearest-even .ensures ∙ sym (digits-normal (c .before .before .args .b) (c .before .if1 .taken))
+returns c = c .nearest-even-29 .ensures ∙ sym (digits-normal (c .before .before .args .b) (c .before .if1 .taken))
 
 returns-2 : tie.Need-returns-2
 returns-2 c =
     let b = c .before .before .before .args .b in
-    c .nearest-even2 .ensures
+    c .nearest-even .ensures
     ∙ ap (λ (u : ℕ). closest (b % 0x10_0000_0000_0000 + 0x10_0000_0000_0000) u) (unit (926 - b / 0x10_0000_0000_0000) (shift b (c .before .if2 .taken)))
     ∙ sym (digits-small b (c .before .before .if1 .left) (c .before .if2 .taken))
 
@@ -53,12 +53,12 @@ pub kept-digits-spec : {M : Type 1} → statement M
 kept-digits-spec =
     tie.close
     (tie.spec
-    sub-nearest-even
-    nearest-even-requires
+    sub-nearest-even-29
+    nearest-even-29-requires
     add-nearest-even
-    sub-nearest-even-2
+    sub-nearest-even
     shl-nearest-even
-    nearest-even-requires-2
+    nearest-even-requires
     returns
     returns-2
     returns-3)

@@ -1,31 +1,24 @@
--- `tx::step` meets its contract: the symbol clock's test is the definition's. Assumes nothing.
-use Rattle.sending.proofs.Tones.{tick-symbol, tick-on}
+-- `tx::step` meets its contract. Assumes nothing.
+use Rattle.sending.proofs.Tones.{once}
 use borrow.Author.Needs.{needs}
 use Rattle.sending.proofs.tx.step.Statement.{statement}
 use Rattle.sending.proofs.tx.step.Tie as tie
+use Rattle.sending.proofs.tx.step.Reads as reads
+use Rattle.sending.proofs.tx.step.Lts as lts
+use Rattle.numeric.proofs.sine.sine.Reads as sine-reads
+use Rattle.sending.proofs.tx.advance.Reads as advance-reads
 
-next-requires : tie.Need-next-requires
-next-requires c κs = search needs
+-- src/tx.rt:133:9
+sine-requires : tie.Need-sine-requires
+sine-requires c κs = search needs
 
-samples-per-symbol-requires : tie.Need-samples-per-symbol-requires
-samples-per-symbol-requires c κs = search needs
+-- src/tx.rt:134:9
+advance-requires : tie.Need-advance-requires
+advance-requires c κs = search needs
 
-next-symbol-requires : tie.Need-next-symbol-requires
-next-symbol-requires c κs = search needs
-
+-- src/tx.rt:127:1
 returns : tie.Need-returns
-returns c =
-    let z = c .before .before .before .before .before .before .before in
-    let n = c .before .before .before .before .before .next in
-    (tick-symbol (z .args .t) _ (n .result) _ (n .ensures) (c .before .before .before .samples-per-symbol .ensures) _ (c .before .if1 .taken) (c .next-symbol .ensures .0), c .next-symbol .ensures .1)
-
-returns-2 : tie.Need-returns-2
-returns-2 c =
-    let z = c .before .before .before .before .before .before in
-    let n = c .before .before .before .before .next in
-    (tick-on (z .args .t) _ (n .result) _ (n .ensures) (c .before .before .samples-per-symbol .ensures) (c .if1 .left), z .pre)
+returns c = (once (c .before .before .before .args .t) _ _ _ (c .advance .ensures .0) (c .before .sine .ensures), c .advance .ensures .1)
 
 pub step-spec : {M : Type 1} → statement M
-step-spec =
-    tie.close
-    (tie.spec next-requires samples-per-symbol-requires next-symbol-requires returns returns-2)
+step-spec = tie.close (tie.spec sine-requires advance-requires returns)

@@ -1,7 +1,7 @@
 -- Each arm returns what the test picks. Assumes nothing.
-use Rattle.demodulation.specs.Waves.{wrapped}
-use Rattle.demodulation.proofs.waves.wrap.Statement.{statement}
-use Rattle.demodulation.proofs.waves.wrap.Tie as tie
+use Rattle.numeric.specs.Sines.{wrapped}
+use Rattle.numeric.proofs.sines.wrap.Statement.{statement}
+use Rattle.numeric.proofs.sines.wrap.Tie as tie
 
 returns : tie.Need-returns
 unfolding wrapped

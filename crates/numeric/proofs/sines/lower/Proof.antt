@@ -1,7 +1,7 @@
 -- Each arm returns what the test picks. Assumes nothing.
-use Rattle.demodulation.specs.Waves.{lowered}
-use Rattle.demodulation.proofs.waves.lower.Statement.{statement}
-use Rattle.demodulation.proofs.waves.lower.Tie as tie
+use Rattle.numeric.specs.Sines.{lowered}
+use Rattle.numeric.proofs.sines.lower.Statement.{statement}
+use Rattle.numeric.proofs.sines.lower.Tie as tie
 
 returns : tie.Need-returns
 unfolding lowered

@@ -1,7 +1,7 @@
 -- The second test counts where the first does not hold. Assumes nothing.
-use Rattle.demodulation.specs.Waves.{beyond}
-use Rattle.demodulation.proofs.waves.is_beyond.Statement.{statement}
-use Rattle.demodulation.proofs.waves.is_beyond.Tie as tie
+use Rattle.numeric.specs.Sines.{beyond}
+use Rattle.numeric.proofs.sines.is_beyond.Statement.{statement}
+use Rattle.numeric.proofs.sines.is_beyond.Tie as tie
 
 returns : tie.Need-returns
 unfolding beyond

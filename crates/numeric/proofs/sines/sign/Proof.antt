@@ -1,7 +1,7 @@
 -- Each arm returns what the test picks. Assumes nothing.
-use Rattle.demodulation.specs.Waves.{signed}
-use Rattle.demodulation.proofs.waves.sign.Statement.{statement}
-use Rattle.demodulation.proofs.waves.sign.Tie as tie
+use Rattle.numeric.specs.Sines.{signed}
+use Rattle.numeric.proofs.sines.sign.Statement.{statement}
+use Rattle.numeric.proofs.sines.sign.Tie as tie
 
 returns : tie.Need-returns
 unfolding signed

@@ -1,0 +1,92 @@
+// Two sines, and the steps of one. A series is seven divisions, each of which waits for the one before it: two go side by side.
+use crate::sine::PI;
+use crate::sine::TAU;
+use crate::sine::fold;
+use crate::sine::sine;
+ghost use mathlib.Core.Path.{_≡_};
+ghost use Rattle.numeric.specs.Sine.{series, sineOf};
+ghost use Rattle.numeric.specs.Sines.{wrapped, lowered, signed, beyond};
+
+pub struct Pair {
+    pub first: f64,
+    pub second: f64,
+}
+
+pub fn wrap(x: f64) -> f64
+    ensures { λ r. ⌜ r ≡ wrapped x ⌝ }
+{
+    if x >= TAU { x - TAU } else { x }
+}
+
+pub fn lower(x: f64) -> f64
+    ensures { λ r. ⌜ r ≡ lowered x ⌝ }
+{
+    if x >= PI { x - PI } else { x }
+}
+
+pub fn sign(x: f64, v: f64) -> f64
+    ensures { λ r. ⌜ r ≡ signed x v ⌝ }
+{
+    if x >= PI { -v } else { v }
+}
+
+// Whether one turn less is not all that x needs to be within one turn, where y is x wrapped.
+pub fn is_beyond(x: f64, y: f64) -> bool
+    ensures { λ r. ⌜ r ≡ beyond x y ⌝ }
+{
+    if x < 0.0 {
+        return true;
+    }
+    y >= TAU
+}
+
+// The series of x, and that of y.
+pub fn series_pair(x: f64, y: f64) -> Pair
+    ensures { λ r. ⌜ (r .first ≡ series x) × (r .second ≡ series y) ⌝ }
+{
+    let t = x * x;
+    let u = y * y;
+    let mut h = 1.0 - t * 1.0 / 210.0;
+    let mut k = 1.0 - u * 1.0 / 210.0;
+    h = 1.0 - t * h / 156.0;
+    k = 1.0 - u * k / 156.0;
+    h = 1.0 - t * h / 110.0;
+    k = 1.0 - u * k / 110.0;
+    h = 1.0 - t * h / 72.0;
+    k = 1.0 - u * k / 72.0;
+    h = 1.0 - t * h / 42.0;
+    k = 1.0 - u * k / 42.0;
+    h = 1.0 - t * h / 20.0;
+    k = 1.0 - u * k / 20.0;
+    h = 1.0 - t * h / 6.0;
+    k = 1.0 - u * k / 6.0;
+    Pair {
+        first: x * h,
+        second: y * k,
+    }
+}
+
+// The sine of x, and that of y. Phases as they come are within one turn, so that what is beyond it is seldom asked.
+pub fn sines(x: f64, y: f64) -> Pair
+    ensures { λ r. ⌜ (r .first ≡ sineOf x) × (r .second ≡ sineOf y) ⌝ }
+{
+    let a = wrap(x);
+    let b = wrap(y);
+    if is_beyond(x, a) {
+        return Pair {
+            first: sine(x),
+            second: sine(y),
+        };
+    }
+    if is_beyond(y, b) {
+        return Pair {
+            first: sine(x),
+            second: sine(y),
+        };
+    }
+    let p = series_pair(fold(lower(a)), fold(lower(b)));
+    Pair {
+        first: sign(a, p.first),
+        second: sign(b, p.second),
+    }
+}
