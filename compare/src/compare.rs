@@ -237,7 +237,9 @@ pub const LOUD: f32 = 0.9;
 
 /// Idle mark, the training, idle mark, the text, idle mark.
 fn sent_by_the_port(rate: u32, role: u32, amplitude: f32, text: &[u8]) -> Vec<f32> {
-    let reads = (rate * 14 / 10 / 1_000) as usize;
+    // 48 bits behind the text, so that its last byte is heard in full.
+    let bits = 40 + 10 * TRAINING.len() + 12 + 10 * text.len() + 48;
+    let reads = (rate as usize * bits / 300).div_ceil(1_000);
     let mut script = vec![AMPLITUDE, bits_of(amplitude), IDLE_MARK, 40];
     script.extend([WRITE, TRAINING.len() as u64, IDLE_MARK, 12, WRITE, text.len() as u64]);
     script.extend([READ, 1_000].repeat(reads));

@@ -1,8 +1,9 @@
 //! Holds the port against the Rust original, bit for bit.
 //!
 //!     compare [--cases N] [--seed S] [--only K] [--quick]
-//!     speed [resampler|receiver|sender]
+//!     speed [resampler|receiver|sender|board]
 //!     soak SAMPLES LINES [--seed S] [--program P] [--only receiver|sender|loops|lines]
+//!     loops STEP BYTES
 //!     loudest FROM TO STEP
 //!     vectors FOLDER
 //!     hear FILE RATE ROLE FOLDER
@@ -49,11 +50,12 @@ const USAGE: &str = "\
 usage: compare [--cases N] [--seed S]   the same calls to both sides
                [--only K]               receiver case K alone
                [--quick]                no search for a smaller case
-       speed [resampler|receiver|sender]
+       speed [resampler|receiver|sender|board]
                                         the time of both sides
        soak SAMPLES LINES [--seed S]    both sides on so many samples, and the
                [--program P]            program P on so many lines
                [--only PART]            receiver, sender, loops or lines alone
+       loops STEP BYTES                 so many bytes from sender to receiver, at each STEPth rate
        loudest FROM TO STEP             the sender's largest sample, at each STEPth rate
        vectors FOLDER                   the original's answers as text
        hear FILE RATE ROLE FOLDER       likewise, to a recording of f32 samples
@@ -70,10 +72,14 @@ fn main() -> ExitCode {
             None => usage(),
         },
         ["speed"] => speed::run(""),
-        ["speed", part @ ("resampler" | "receiver" | "sender")] => speed::run(part),
+        ["speed", part @ ("resampler" | "receiver" | "sender" | "board")] => speed::run(part),
         ["soak", ref options @ ..] => match soak::Options::from(options) {
             Some(options) => soak::run(&options),
             None => usage(),
+        },
+        ["loops", step, bytes] => match (step.parse(), bytes.parse()) {
+            (Ok(step), Ok(bytes)) => soak::loops_at(step, bytes),
+            _ => usage(),
         },
         ["loudest", from, to, step] => match (from.parse(), to.parse(), step.parse()) {
             (Ok(from), Ok(to), Ok(step)) => loudest::run(from, to, step),

@@ -190,6 +190,35 @@ fn loops(options: &Options) -> Result<String, String> {
     Ok(format!("from sender to receiver: {runs} rates, 30 bytes at each, all heard by both"))
 }
 
+/// From sender to receiver at each STEPth rate, so many bytes at each, in both
+/// roles by turns.
+pub fn loops_at(step: usize, bytes: usize) -> ExitCode {
+    if PORT.send.is_none() || PORT.receive.is_none() || step == 0 {
+        println!("not run: the port does not export both, or the step is 0");
+        return ExitCode::FAILURE;
+    }
+    let begun = Instant::now();
+    let runs = 40_000 / step + 1;
+    let heard = workers::all(0..runs, |index| {
+        let mut random = Random::of_case(0x4C4F_4F50, index as u64);
+        let rate = 8_000 + (index * step) as u32;
+        let amplitude = random.pick(&[0.02, 0.5, LOUD]);
+        loop_at(rate, index as u32 % 2, amplitude, &random.bytes(bytes)).map_err(|f| f.words)
+    });
+    match heard {
+        Ok(heard) => {
+            let bytes: usize = heard.iter().sum();
+            let seconds = begun.elapsed().as_secs_f64();
+            println!("{runs} rates, {bytes} bytes, all heard by both, {seconds:.0} s");
+            ExitCode::SUCCESS
+        }
+        Err(words) => {
+            println!("DIFFERENCE: {words}");
+            ExitCode::FAILURE
+        }
+    }
+}
+
 fn lines(options: &Options) -> Result<String, String> {
     let (mut ended, mut run, mut counts) = (0, 0, [0; 12]);
     while ended < options.lines {

@@ -15,6 +15,8 @@ use original::tx::Tx;
 
 use crate::cases::bits_of;
 use crate::clock;
+#[cfg(board)]
+use crate::judge::Judge;
 use crate::layout::*;
 use crate::oracle::config;
 use crate::port;
@@ -53,11 +55,19 @@ pub fn run(part: &str) -> ExitCode {
             }
         }
     }
+    #[cfg(board)]
+    if wanted("board") {
+        for rate in [8_000, 44_100, 48_000] {
+            for block in [1_024, 64] {
+                board(rate, block);
+            }
+        }
+    }
     ExitCode::SUCCESS
 }
 
-/// Letters on a line that is heard well.
-fn line(rate: u32) -> Vec<f32> {
+/// Such a text again and again, on a line that is heard well.
+fn line(rate: u32, text: &[u8]) -> Vec<f32> {
     let tones = Tones::heard_by(ORIGINATE);
     let how = Modulation {
         mark: tones.mark,
@@ -69,7 +79,7 @@ fn line(rate: u32) -> Vec<f32> {
     let mut tape = Tape::new(rate);
     tape.preamble(how);
     while tape.seconds() < f64::from(LINE) {
-        tape.bytes(how, b"TIDE");
+        tape.bytes(how, text);
     }
     tape.finish()
 }
@@ -98,7 +108,7 @@ fn resampler(src: u32, dst: u32, block: u32) {
 }
 
 fn receiver(receive: Receive, rate: u32, block: u32) {
-    let samples = line(rate);
+    let samples = line(rate, b"TIDE");
     let script = [block, 600, 100].repeat(samples.len().div_ceil(block as usize));
     let (mut bytes, mut events) = (vec![0; 1_000], vec![0; 100]);
     let mut answers = vec![0; script.len() / CALL * HEARD];
@@ -151,6 +161,38 @@ fn sender(send: Send, rate: u32, block: usize) {
         },
     );
     std::hint::black_box(waits);
+}
+
+/// The board against the original's receiver with the judge of `judge.rs`
+/// behind it, which is not the Rust's but ours.
+#[cfg(board)]
+fn board(rate: u32, block: u32) {
+    let samples = line(rate, b"01010D000700C0000005019C88\n");
+    let lengths = vec![block; samples.len().div_ceil(block as usize)];
+    let mut answers = vec![0; JUDGED * lengths.len()];
+    let mut shown = [0; SHOWN];
+    let mut bytes = [0; 600];
+    let mut judged = 0;
+    measure(
+        &format!("board at {rate}, blocks of {block}"),
+        samples.len(),
+        &mut || {
+            let mut rx = Rx::new(config(rate, ORIGINATE));
+            let mut judge = Judge::new(7);
+            for block in samples.chunks(block as usize) {
+                rx.write(block);
+                let heard = rx.read(&mut bytes);
+                for &byte in &bytes[..heard] {
+                    judged += judge.byte(byte).unwrap_or(0);
+                }
+            }
+        },
+        &mut || {
+            port::listen(rate, 7, ORIGINATE, &samples, &lengths, &mut answers, &mut shown);
+        },
+    );
+    assert_eq!(shown[0], 1, "the board heard its line");
+    std::hint::black_box(judged);
 }
 
 /// Runs both in turns and prints a line.

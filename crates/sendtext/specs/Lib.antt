@@ -2,3 +2,4 @@
 pub mod Words
 pub mod Header
 pub mod Call
+pub mod CallLaws

@@ -10,10 +10,12 @@ use refusal::Acceptance;
 use refusal::Counted;
 use sending::tx::Tx;
 ghost use mathlib.Core.Path.{_≡_};
-ghost use Prim.Native.Nat.{_+_, _*_, _≤_, _<_};
+ghost use mathlib.Core.List.{[]};
+ghost use Prim.Native.Nat.{_+_, _-_, _*_, _≤_, _<_, min};
 ghost use lib.ListN.{length};
-ghost use Rattle.sending.specs.TxHeld.{TxSound};
-ghost use Rattle.sendtext.specs.Call.{callOf, bitPeriods};
+ghost use Rattle.refusal.specs.Refusals.{isAccepted};
+ghost use Rattle.sending.specs.TxHeld.{senderOf, TxSound};
+ghost use Rattle.sendtext.specs.Call.{callOf, bitPeriods, openedOf, sent, queuedMore, blockOf};
 
 // Half of full scale: the resampler's interpolation overshoots what it is given, and a board refuses a sample beyond 1.
 const AMPLITUDE: f32 = 0.5;
@@ -40,7 +42,7 @@ fn bits_for(text: &[u8]) -> usize
 // What stands before the text, in an empty queue.
 fn opened(tx: Tx) -> Tx
     requires { ⌜ TxSound tx ⌝ }
-    ensures { λ r. ⌜ TxSound r ⌝ }
+    ensures { λ r. ⌜ (senderOf r ≡ openedOf (senderOf tx)) × TxSound r ⌝ }
 {
     let a = tx.set_amplitude(AMPLITUDE);
     let quiet = a.state;
@@ -60,7 +62,9 @@ struct Sending {
     at: usize,
 }
 
-fn is_accepted(a: Acceptance) -> bool {
+fn is_accepted(a: Acceptance) -> bool
+    ensures { λ r. ⌜ r ≡ isAccepted a ⌝ }
+{
     match a {
         Acceptance::Accepted => true,
         Acceptance::Refused(_) => false,
@@ -70,6 +74,7 @@ fn is_accepted(a: Acceptance) -> bool {
 // The next 64 bytes of the text at the most, if the queue has room for them.
 fn queue_more(s: Sending, text: &[u8]) -> Sending
     requires { ⌜ TxSound (s .tx) × (s .at ≤ length (now text)) ⌝ }
+    ensures { λ r. ⌜ sent (senderOf (r .tx)) (r .at) [] ≡ queuedMore (senderOf (s .tx)) (now (text .entry)) (s .at) ⌝ }
     ensures { λ r. ⌜ TxSound (r .tx) × (r .at ≤ length (now (text .entry))) ⌝ }
 {
     let tx = s.tx;
@@ -86,7 +91,7 @@ fn queue_more(s: Sending, text: &[u8]) -> Sending
 
 fn end_of(at: usize, len: usize) -> usize
     requires { ⌜ at ≤ len ⌝ }
-    ensures { λ r. ⌜ (at ≤ r) × (r ≤ len) ⌝ }
+    ensures { λ r. ⌜ (r ≡ at + min 64 (len - at)) × (at ≤ r) × (r ≤ len) ⌝ }
 {
     if len - at < 64 { len } else { at + 64 }
 }
@@ -134,6 +139,7 @@ fn write_samples(samples: &[f32])
 // The next samples, into the part and to standard output.
 fn send_part(s: Sending, text: &[u8], part: &mut [f32]) -> Sending
     requires { ⌜ TxSound (s .tx) × (s .at ≤ length (now text)) × (length (now part) ≤ 1024) ⌝ }
+    ensures { λ r. ⌜ sent (senderOf (r .tx)) (r .at) (now (part .exit)) ≡ blockOf (senderOf (s .tx)) (now (text .entry)) (s .at) (now (part .entry)) ⌝ }
     ensures { λ r. ⌜ TxSound (r .tx) × (r .at ≤ length (now (text .entry))) ⌝ }
 {
     let q = queue_more(s, text);

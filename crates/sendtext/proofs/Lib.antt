@@ -1,0 +1,2 @@
+-- Laws that the proofs of `sendtext` share.
+mod Asking
