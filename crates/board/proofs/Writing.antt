@@ -11,6 +11,7 @@ use Rattle.numeric.specs.F64.{if_then_else_}
 use Rattle.refusal.specs.Refusals.{acceptanceOf, replyOf, first, first-yes, first-no, rateRefused}
 use Rattle.framing.specs.Framing as framing
 use Rattle.modem.specs.Rx as rx
+use Rattle.samples.specs.Write.{refusedBy}
 use Rattle.modem.specs.RxHeld.{receiverOf, RxSound}
 use Rattle.modem.specs.RxLaws.{heard-few, fresh-idle}
 use Rattle.modem.specs.RxCalls.{Accepts, ReadsAll, sound-listens, sound-few, sound-count, admitted, new-is, fresh-is, write-accepts, write-refuses, reads-all}
@@ -121,7 +122,7 @@ module _ (r : Rx) (d : Desk) (sound : RxSound r) (sound-desk : desks.Sound d) (f
 module _ (b : Board) (s : List Float) (ok : BoardSound b) (next : Rx) where
   same-number : plain.number (plainOf b) s ≡ rx.refusalOf (receiverOf (b .rx)) s
   unfolding plain.number plainOf
-  same-number = ap (λ (l : List ℕ). rx.refusedBy s (receiverOf (b .rx) .accepted) (length l)) (sym (ok .empty))
+  same-number = ap (λ (l : List ℕ). refusedBy s (receiverOf (b .rx) .accepted) (length l)) (sym (ok .empty))
 
   pub writes-refused : (why : Refusal) → rx.wrote (acceptanceOf (Refused why)) (receiverOf next) ≡ rx.written (receiverOf (b .rx)) s
       → Writes b s (record { answer = answer.Refused why; state = b })

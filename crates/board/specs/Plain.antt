@@ -8,8 +8,9 @@ use lib.Ieee.{Float}
 use Rattle.numeric.specs.F64.{if_then_else_}
 use Rattle.bell103.specs.declared.Role.{Role}
 use Rattle.refusal.specs.Refusals.{Reply, replyOf, first, rateRefused}
-use Rattle.modem.specs.Queue.{notingAll}
-use Rattle.modem.specs.Rx.{Demod, heardBy, freshDemod, refusedBy}
+use Rattle.queues.specs.Queue.{notingAll}
+use Rattle.modem.specs.Rx.{Demod, heardBy, freshDemod}
+use Rattle.samples.specs.Write.{refusedBy}
 use Rattle.modem.specs.RxCalls.{admitted}
 use Rattle.tide.specs.Desk.{Line, Desk, freshDesk, addBytes, linesIn, verdictsIn, lastOf}
 

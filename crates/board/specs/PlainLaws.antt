@@ -11,8 +11,8 @@ use lib.Ieee.{Float}
 use Rattle.numeric.specs.F64.{if_then_else_}
 use Rattle.refusal.specs.Refusals.{first, first-yes, rateRefused}
 use Rattle.bell103.specs.declared.Role.{Role}
-use Rattle.modem.specs.Samples.{allInRange}
-use Rattle.modem.specs.Queue.{notingAll}
+use Rattle.samples.specs.Samples.{allInRange}
+use Rattle.queues.specs.Queue.{notingAll}
 use Rattle.modem.specs.Rx.{heardBy}
 use Rattle.modem.specs.RxCalls.{none-wait, never-waits, admitted-same}
 use Rattle.tide.specs.Desk.{Line, Desk, addBytes, linesIn, verdictsIn, lastOf}

@@ -10,7 +10,8 @@ use lib.ListN.{length, getD, take, drop, length-append, length-drop, take-append
 use lib.Seq.{drop-cons, length-take-le}
 use lib.Ieee.{Float}
 use Rattle.refusal.specs.Refusals.{Reply, given, refused, ratesRefused}
-use Rattle.resampling.specs.Resample.{State, fresh, Made, made, newOf, Ran, Outcome, outcome, laid, unlessRefused, refusalOf, ranOver, lenOf, processed}
+use Rattle.resampling.specs.Resample.{State, fresh, Made, made, newOf, Outcome, outcome, laid, unlessRefused, refusalOf, ranOver, lenOf, processed}
+use Rattle.feeding.specs.Flow.{Ran}
 use Rattle.resampling.specs.ResampleHeld.{stateOf, Sound}
 use Rattle.resampling.specs.declared.resample.Resampler.{Resampler}
 use Rattle.calls.specs.Made.{accepted-only, refused-only}

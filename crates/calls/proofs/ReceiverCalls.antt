@@ -11,14 +11,14 @@ use lib.Seq.{append-snoc, drop-cons, drop-drop, getD-drop, length-take-le, set-a
 use lib.Ieee.{Float}
 use Rattle.refusal.specs.Refusals.{Reply, given, refused, rateRefused}
 use Rattle.demodulation.specs.Demod.{eventsOf}
-use Rattle.modem.specs.Queue.{noted, EventsHeld, EventsWait, Pops, Drains}
+use Rattle.queues.specs.Queue.{noted, EventsHeld, EventsWait, Pops, Drains}
 use Rattle.modem.specs.Rx.{Receiver, freshReceiver, Made, made, newOf, wrote, written, ReadOut, readOut, readOf, carrierOf, errorsOf}
 use Rattle.modem.specs.RxHeld.{receiverOf, RxSound}
 use Rattle.bell103.specs.declared.Role.{Role}
-use Rattle.modem.specs.declared.queue.Bytes.{Bytes}
-use Rattle.modem.specs.declared.queue.Drained.{Drained}
-use Rattle.modem.specs.declared.queue.Events.{Events}
-use Rattle.modem.specs.declared.queue.NextEvent.{NextEvent}
+use Rattle.queues.specs.declared.queue.Bytes.{Bytes}
+use Rattle.queues.specs.declared.queue.Drained.{Drained}
+use Rattle.queues.specs.declared.queue.Events.{Events}
+use Rattle.queues.specs.declared.queue.NextEvent.{NextEvent}
 use Rattle.modem.specs.declared.rx.Rx.{Rx}
 use Rattle.calls.specs.ReceiveLaws.{callIn}
 use Rattle.numeric.specs.Parts.{take-min, drop-min, part-next, part-left, put-front, put-behind, put-within}

@@ -6,8 +6,8 @@ use mathlib.Core.List.{List, [], _∷_, _++_, map}
 use lib.ListN.{length, take, drop}
 use lib.Ieee.{Float}
 use Rattle.modem.specs.RxHeld.{receiverOf, RxSound}
-use Rattle.modem.specs.Queue.{noted, EventsWait}
-use Rattle.modem.specs.declared.queue.Events.{Events}
+use Rattle.queues.specs.Queue.{noted, EventsWait}
+use Rattle.queues.specs.declared.queue.Events.{Events}
 use Rattle.modem.specs.declared.rx.Rx.{Rx}
 use Rattle.calls.specs.Receive.{Called, called, bit, toldCall}
 use Rattle.calls.specs.declared.answers.Heard.{Heard}

@@ -1,88 +1,29 @@
 -- rx.rs at 8,000 Hz, operation by operation: what one sample makes of the state, and what is heard in a list of samples. Assumes nothing.
-use Prim.Native.Nat.{ℕ, _+_, _<_}
+use Prim.Native.Nat.{ℕ, _<_}
 use mathlib.Core.Bool.{Bool, true, false, _&&_, _||_}
 use mathlib.Core.List.{List, [], _∷_, _++_}
-use lib.Dec.{ltb}
 use lib.Ieee.{Float}
-use lib.ListN.{set, replicate}
-use Rattle.numeric.specs.F64.{_⊕_, _⊖_, _⊗_, _⊘_, _<ᶠ_, _≤ᶠ_, if_then_else_, f64, whole, zero64, half64, one64, magnitude, tau}
-use Rattle.numeric.specs.Sine.{sineOf, cosineOf}
-use Rattle.numeric.specs.Root.{rootOf}
-use Rattle.numeric.specs.Fold.{fold}
+use Rattle.numeric.specs.F64.{if_then_else_, whole}
 use Rattle.refusal.specs.Refusals.{dspRate}
-use Rattle.bell103.specs.Roles.{samplesPerSymbol, otherRole, tonesOf}
-use Rattle.framing.specs.Frame.{freshDeframer, waiting, pushBit, bytesOf}
-use Rattle.bell103.specs.Nco.{turned}
+use Rattle.bell103.specs.Roles.{otherRole, tonesOf}
+use Rattle.framing.specs.Frame.{freshDeframer, bytesOf}
+use Rattle.correlation.specs.Correlation.{places, ringsOf, multiplied, advanced, correlated, freshRing, freshCorrelator}
+use Rattle.timing.specs.Timing.{ticked, sliced, freshTiming}
 use Rattle.detection.specs.Carrier.{freshDetector, updated, freshDominance, dominanceStep}
 use Rattle.bell103.specs.declared.Role.{Role}
 use Rattle.bell103.specs.declared.TonePair.{TonePair}
-use Rattle.framing.specs.declared.frame.Deframer.{Deframer}
 use Rattle.framing.specs.declared.frame.Heard.{Heard}
 use Rattle.framing.specs.declared.frame.Heard.the-variants.{Waiting}
-use Rattle.framing.specs.declared.frame.Pushed.{Pushed}
 use Rattle.detection.specs.declared.carrier.CarrierDetector.{CarrierDetector}
 use Rattle.detection.specs.declared.carrier.Verdict.{Verdict}
 use Rattle.detection.specs.declared.carrier.Verdict.the-variants.{Going, Dominant, Not}
-use Rattle.demodulation.specs.declared.demod.Rings.{Rings}
-use Rattle.demodulation.specs.declared.demod.Correlator.{Correlator}
-use Rattle.demodulation.specs.declared.demod.Decision.{Decision}
-use Rattle.demodulation.specs.declared.demod.Timing.{Timing}
-use Rattle.demodulation.specs.declared.demod.Ticked.{Ticked}
+use Rattle.correlation.specs.declared.correlator.Rings.{Rings}
 use Rattle.demodulation.specs.declared.demod.Latch.{Latch}
 use Rattle.demodulation.specs.declared.demod.Event.{Event}
 use Rattle.demodulation.specs.declared.demod.Event.the-variants.{Nothing, CarrierUp, CarrierDown}
 use Rattle.demodulation.specs.declared.demod.Core.{Core}
 use Rattle.demodulation.specs.declared.demod.CoreStep.{CoreStep}
 use Rattle.demodulation.specs.declared.demod.Demodulator.{Demodulator}
-
--- ---- products, phases, ring place
--- "State of 27-place rings"
-abbrev pub places : ℕ
-places = 27
-
-abbrev pub ringsOf : List Float → List Float → List Float → List Float → Rings
-ringsOf mi mq si sq = record { «mark_i» = mi; «mark_q» = mq; «space_i» = si; «space_q» = sq }
-
--- the sample times cosine and sine of each tone's phase, at the ring place
-abbrev pub multiplied : Rings → Correlator → Float → Rings
-multiplied r c s =
-    ringsOf
-    (set (r .«mark_i») (c .pos) (s ⊗ cosineOf (c .«phase_m»)))
-    (set (r .«mark_q») (c .pos) (s ⊗ sineOf (c .«phase_m»)))
-    (set (r .«space_i») (c .pos) (s ⊗ cosineOf (c .«phase_s»)))
-    (set (r .«space_q») (c .pos) (s ⊗ sineOf (c .«phase_s»)))
-
--- the phases and the place, one sample on; the rings are filled once the place is back at 0
-unfoldable pub advanced : Correlator → Correlator
-advanced c =
-    record {
-      pos = if ltb (c .pos + 1) places then c .pos + 1 else 0;
-      filled = if ltb (c .pos + 1) places then c .filled else true;
-      «phase_m» = turned (c .«phase_m») (c .«inc_m»);
-      «phase_s» = turned (c .«phase_s») (c .«inc_s»);
-      «inc_m» = c .«inc_m»;
-      «inc_s» = c .«inc_s»;
-    }
-
--- ---- "correlate, in place order"
--- "Sums start at 0.0"
-abbrev pub sumOf : List Float → Float
-sumOf ring = fold _⊕_ zero64 ring
-
--- the magnitude of one tone
-unfoldable pub magnitudeOf : List Float → List Float → Float
-magnitudeOf i q = rootOf (sumOf i) (sumOf q)
-
--- 27.0
-abbrev pub placesAsFloat : Float
-placesAsFloat = f64 0x403B_0000_0000_0000
-
--- soft decision: mark magnitude less space magnitude; energy: their sum over 27
-abbrev pub decisionOf : Float → Float → Decision
-decisionOf m s = record { soft = m ⊖ s; energy = (m ⊕ s) ⊘ placesAsFloat }
-
-abbrev pub correlated : Rings → Decision
-correlated r = decisionOf (magnitudeOf (r .«mark_i») (r .«mark_q»)) (magnitudeOf (r .«space_i») (r .«space_q»))
 
 -- ---- the latch, and its event
 -- a finished block's verdict opens or shuts the gate
@@ -101,67 +42,6 @@ eventOf false true = CarrierUp
 eventOf true false = CarrierDown
 eventOf true true = Nothing
 eventOf false false = Nothing
-
--- ---- timing
--- 1e-9
-abbrev pub leastLevel : Float
-leastLevel = f64 0x3E11_2E0B_E826_D695
-
--- GARDNER_GAIN, 0.15
-abbrev pub gardnerGain : Float
-gardnerGain = f64 0x3FC3_3333_3333_3333
-
--- the level of two neighbouring symbols
-abbrev pub levelOf : Float → Float → Float
-levelOf soft last = magnitude soft ⊕ magnitude last ⊕ leastLevel
-
--- the timing error, before the gain: "nothing limits it but the 1e-9 term"
-unfoldable pub errorOf : Float → Float → Float → Float
-errorOf soft last mid = (soft ⊖ last) ⊗ mid ⊘ (levelOf soft last ⊗ levelOf soft last)
-
-abbrev pub timing : Float → Float → Float → Float → Bool → Timing
-timing phase inc last mid have = record { «sym_phase» = phase; «sym_inc» = inc; «last_sym» = last; «mid_sym» = mid; «have_mid» = have }
-
--- the symbol phase one sample on
-abbrev pub nextPhase : Timing → Float
-nextPhase t = t .«sym_phase» ⊕ t .«sym_inc»
-
--- where it passes 0.5, this soft decision is the symbol's midpoint
-unfoldable pub crossed : Timing → Float → Timing
-crossed t soft =
-    if (t .«sym_phase» <ᶠ half64) && (half64 ≤ᶠ nextPhase t)
-    then timing (nextPhase t) (t .«sym_inc») (t .«last_sym») soft true
-    else timing (nextPhase t) (t .«sym_inc») (t .«last_sym») (t .«mid_sym») (t .«have_mid»)
-
--- the phase behind a boundary, moved by the error: late pulls the next boundary forward; below 0.0 it stays as it is
-abbrev pub movedBy : Float → Float → Float
-movedBy residue e = residue ⊕ gardnerGain ⊗ e
-
--- 1.0 less, and with a midpoint moved by the error
-abbrev pub residueOf : Timing → Float → Float
-residueOf t soft =
-    if t .«have_mid»
-    then movedBy (t .«sym_phase» ⊖ one64) (errorOf soft (t .«last_sym») (t .«mid_sym»))
-    else t .«sym_phase» ⊖ one64
-
--- a boundary: the next symbol begins without a midpoint
-unfoldable pub bounded : Timing → Float → Timing
-bounded t soft = timing (residueOf t soft) (t .«sym_inc») soft (t .«mid_sym») false
-
--- "At most one boundary a sample": where the phase has reached 1.0
-abbrev pub endedAt : Timing → Float → Ticked
-endedAt t soft =
-    if one64 ≤ᶠ t .«sym_phase»
-    then record { state = bounded t soft; boundary = true }
-    else record { state = t; boundary = false }
-
-unfoldable pub ticked : Timing → Float → Ticked
-ticked t soft = endedAt (crossed t soft) soft
-
--- ---- the slicer
--- "slice at a boundary while the detector (not the latched report) is up, soft ≥ 0 being mark"; else the deframer keeps its half byte
-unfoldable pub sliced : Deframer → Bool → Bool → Float → Pushed
-sliced d boundary up soft = if boundary && up then pushBit d (zero64 ≤ᶠ soft) else waiting d
 
 -- ---- one sample
 abbrev pub demodulator : Rings → Core → Demodulator
@@ -228,24 +108,6 @@ unfoldable pub stepOf : Demodulator → Float → Step
 stepOf d s = if fed d s .core .corr .filled then decoded (fed d s) else record { state = fed d s; heard = Waiting; event = Nothing }
 
 -- ---- a fresh one
-abbrev pub freshRing : List Float
-freshRing = replicate places zero64
-
--- TAU × tone / 8000.0 a sample
-abbrev pub freshCorrelator : Float → Float → Correlator
-freshCorrelator mark space =
-    record {
-      pos = 0;
-      filled = false;
-      «phase_m» = zero64;
-      «phase_s» = zero64;
-      «inc_m» = tau ⊗ mark ⊘ whole dspRate;
-      «inc_s» = tau ⊗ space ⊘ whole dspRate;
-    }
-
-abbrev pub freshTiming : Timing
-freshTiming = timing zero64 (one64 ⊘ samplesPerSymbol) zero64 zero64 false
-
 abbrev pub freshCore : TonePair → TonePair → Core
 freshCore far own =
     record {

@@ -17,13 +17,15 @@ use Rattle.numeric.specs.Fold.{fold}
 use Rattle.numeric.specs.Tested.{at-number}
 use Rattle.framing.specs.Frame.{withBit, idleBit, dataBit, stopBit, badStop, pushBit, push-idle, push-data, push-stop, bytesOf, heard, after}
 use Rattle.framing.specs.Framing.{AreBytes, held, heard-append, after-append, heard-few, heard-few-any}
-use Rattle.demodulation.specs.Demod.{Step, places, multiplied, advanced, eventOf, sliced, fedCore, fed, finished, decoded, stepOf, freshDemodulator, Hearing, before, hearing, reported, Tuned}
+use Rattle.demodulation.specs.Demod.{Step, eventOf, fedCore, fed, finished, decoded, stepOf, freshDemodulator, Hearing, before, hearing, reported, Tuned}
+use Rattle.correlation.specs.Correlation.{places, multiplied, advanced}
+use Rattle.timing.specs.Timing.{sliced}
 use Rattle.demodulation.specs.Demod.{eventsOf}
 use Rattle.bell103.specs.declared.Role.{Role}
 use Rattle.framing.specs.declared.frame.Deframer.{Deframer}
 use Rattle.framing.specs.declared.frame.Heard.the-variants.{Waiting}
 use Rattle.framing.specs.declared.frame.Pushed.{Pushed}
-use Rattle.demodulation.specs.declared.demod.Correlator.{Correlator}
+use Rattle.correlation.specs.declared.correlator.Correlator.{Correlator}
 use Rattle.demodulation.specs.declared.demod.Event.{Event}
 use Rattle.demodulation.specs.declared.demod.Event.the-variants.{Nothing, CarrierUp, CarrierDown}
 use Rattle.demodulation.specs.declared.demod.Demodulator.{Demodulator}

@@ -1,5 +1,4 @@
 -- The definitions that the contracts of `demodulation` cite, and the theorems about them.
 pub mod Demod
 pub mod DemodLaws
-pub mod Summing
-pub mod SummingLaws
+pub mod SummingSteps

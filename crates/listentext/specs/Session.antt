@@ -12,7 +12,8 @@ use Rattle.framing.specs.Framing.{held-most}
 use Rattle.resampling.specs.Resample as resample
 use Rattle.resampling.specs.ResampleLaws.{ran-few, output-few}
 use Rattle.demodulation.specs.DemodLaws.{hearing-few}
-use Rattle.modem.specs.Rx.{Demod, resampled, heardBy}
+use Rattle.modem.specs.Rx.{Demod, heardBy}
+use Rattle.hearing.specs.Hear.{resampled}
 use Rattle.modem.specs.RxLaws.{Listens}
 use Rattle.modem.specs.RxHeld.{receiverOf}
 use Rattle.modem.specs.RxCalls.{sound-listens}

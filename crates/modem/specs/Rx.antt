@@ -1,16 +1,16 @@
 -- The receiver (rx.rs): the resampler and the demodulator, which hear; two queues; and the number of samples accepted. Assumes nothing.
 use Prim.Native.Nat.{ℕ, zero, suc, _+_}
-use mathlib.Core.Bool.{Bool, true, false, not}
+use mathlib.Core.Bool.{Bool}
 use mathlib.Core.List.{List, [], _++_}
-use lib.Dec.{ltb}
 use lib.ListN.{length, take, drop}
 use lib.Ieee.{Float}
 use Rattle.numeric.specs.F64.{if_then_else_}
-use Rattle.refusal.specs.Refusals.{dspRate, Reply, given, refused, first, replyOf, rateRefused}
+use Rattle.refusal.specs.Refusals.{dspRate, Reply, given, refused, replyOf, rateRefused}
 use Rattle.resampling.specs.Resample as resample
 use Rattle.demodulation.specs.Demod.{hearing, freshDemodulator}
-use Rattle.modem.specs.Samples.{allInRange}
-use Rattle.modem.specs.Queue.{notingAll, readCount, readInto, readRest}
+use Rattle.samples.specs.Write.{refusedBy}
+use Rattle.hearing.specs.Hear.{resampled}
+use Rattle.queues.specs.Queue.{notingAll, readCount, readInto, readRest}
 use Rattle.bell103.specs.declared.Role.{Role}
 use Rattle.demodulation.specs.declared.demod.Demodulator.{Demodulator}
 
@@ -27,10 +27,6 @@ pub record Heard : Type 0 where
   pub after : Demod
   pub bytes : List ℕ
   pub events : List Bool
-
--- the samples at 8,000 Hz that a list of samples makes, with the room that `max_output_len` gives
-unfoldable pub resampled : resample.State → List Float → resample.Ran
-resampled s xs = resample.ranOver s (resample.maxOutputLen (s .src) (s .dst) (length xs)) xs
 
 unfoldable pub heardBy : Demod → List Float → Heard
 heardBy d xs =
@@ -72,16 +68,6 @@ unfoldable pub newOf : ℕ → Role → Made
 newOf rate role = if rateRefused rate then made (refused 1) (freshReceiver dspRate role) else made (given tt) (freshReceiver rate role)
 
 -- ---- `write`
--- of a list of samples, where so many were accepted and so many bytes wait:
--- "3 more than 1,024 samples. 4 a sample not finite or beyond ±1. 31 the call would pass 4,294,967,296 samples for this receiver.
--- 32 more than 409 of 512 received bytes wait". "Checks run in ascending number; the first that applies is given"
-unfoldable pub refusedBy : List Float → ℕ → ℕ → ℕ
-refusedBy xs accepted waiting =
-    first (ltb 1024 (length xs)) 3
-    (first (not (allInRange xs)) 4
-    (first (ltb 4294967296 (accepted + length xs)) 31
-    (first (ltb 409 waiting) 32 0)))
-
 abbrev pub refusalOf : Receiver → List Float → ℕ
 refusalOf r xs = refusedBy xs (r .accepted) (length (r .waiting))
 

@@ -11,11 +11,12 @@ use lib.Seq.{take-length, drop-length, take-append-seam}
 use lib.Ieee.{Float}
 use Rattle.numeric.specs.F64.{if_then_else_}
 use Rattle.refusal.specs.Refusals.{dspRate, given, refused, first, first-yes, first-no, numberOf, acceptanceOf, replyOf, rateRefused}
-use Rattle.modem.specs.Samples.{allInRange}
-use Rattle.modem.specs.Queue.{mostBytes, notingAll}
-use Rattle.modem.specs.QueueLaws.{queued-length}
+use Rattle.samples.specs.Samples.{allInRange}
+use Rattle.queues.specs.Queue.{mostBytes, notingAll}
+use Rattle.queues.specs.QueueLaws.{queued-length}
 use Rattle.resampling.specs.ResampleHeld.{stateOf}
-use Rattle.modem.specs.Rx.{Receiver, receiver, heardBy, freshReceiver, freshDemod, made, newOf, refusedBy, refusalOf, acceptedBy, Written, wrote, written, unlessRefused, ReadOut, readOut, readOf}
+use Rattle.modem.specs.Rx.{Receiver, receiver, heardBy, freshReceiver, freshDemod, made, newOf, refusalOf, acceptedBy, Written, wrote, written, unlessRefused, ReadOut, readOut, readOf}
+use Rattle.samples.specs.Write.{refusedBy}
 use Rattle.modem.specs.RxHeld.{receiverOf, RxSound}
 use Rattle.modem.specs.RxLaws.{Listens}
 use Rattle.bell103.specs.declared.Role.{Role}

@@ -1,5 +1,5 @@
 -- Laws of the receiver's definitions, for those who call it. Assumes nothing.
-use Prim.Native.Nat.{ℕ, zero, suc, _+_, _*_, _≤_}
+use Prim.Native.Nat.{ℕ, _+_, _*_, _≤_}
 use mathlib.Core.Path.{_≡_, refl, sym, subst}
 use mathlib.Core.Bool.{Bool, true, false, _||_}
 use borrow.Author.Tests.{ltb-false}
@@ -12,9 +12,10 @@ use Rattle.refusal.specs.Refusals.{dspRate, rateRefused}
 use Rattle.resampling.specs.Resample as resample
 use Rattle.resampling.specs.ResampleLaws.{ran-few, ran-none, output-few}
 use Rattle.framing.specs.Framing.{held, AreBytes}
-use Rattle.demodulation.specs.Demod.{hearing, freshDemodulator, Tuned}
+use Rattle.demodulation.specs.Demod.{freshDemodulator, Tuned}
 use Rattle.demodulation.specs.DemodLaws.{hearing-few, hearing-bytes, hearing-tuned, fresh-tuned}
-use Rattle.modem.specs.Rx.{Demod, Heard, resampled, heardBy, freshDemod}
+use Rattle.modem.specs.Rx.{Demod, Heard, heardBy, freshDemod}
+use Rattle.hearing.specs.Hear.{resampled}
 use Rattle.bell103.specs.declared.Role.{Role}
 
 -- a Demod that a fresh one and its writes gave: it goes down to 8,000 Hz

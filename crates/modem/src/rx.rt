@@ -1,31 +1,26 @@
 // The receiver: device samples in, bytes and carrier events out.
-use crate::queue::Bytes;
-use crate::queue::Events;
-use crate::queue::keep_heard;
-use crate::queue::note_into;
-use crate::samples::all_in_range;
-use crate::samples::widen_into;
 use bell103::Role;
-use demodulation::demod::Core;
 use demodulation::demod::Demodulator;
 use demodulation::demod::Event;
-use demodulation::demod::next_sums;
-use demodulation::demod::sums_before;
+use hearing::hear::hear;
+use hearing::hear::hear_plain;
+use hearing::hear::resample_into;
+use queues::queue::Bytes;
+use queues::queue::Events;
 use refusal::Acceptance;
-use refusal::Counted;
 use refusal::DSP_RATE;
 use refusal::Refusal;
 use refusal::rate_ok;
 use resampling::resample::Resampler;
+use samples::write::check;
+use samples::write::is_accepted;
 ghost use mathlib.Core.Path.{_≡_};
-ghost use Prim.Native.Nat.{_+_, _≤_};
-ghost use lib.ListN.{length};
 ghost use mathlib.Core.Bool.{true, false};
-ghost use Rattle.refusal.specs.Refusals.{acceptanceOf, isAccepted, countIn, replyOf, rateRefused};
-ghost use Rattle.resampling.specs.ResampleHeld.{Sound};
+ghost use Rattle.refusal.specs.Refusals.{acceptanceOf, rateRefused};
 ghost use Rattle.demodulation.specs.Demod.{eventsOf};
-ghost use Rattle.modem.specs.Rx.{newOf, made, freshReceiver, refusedBy, acceptedBy, written, wrote, readOf, readOut, eventOf, taken, carrierOf, errorsOf};
-ghost use Rattle.modem.specs.RxHeld.{receiverOf, RxSound, Resamples, Hearable, HearsInto};
+ghost use Rattle.samples.specs.Write.{refusedBy};
+ghost use Rattle.modem.specs.Rx.{newOf, made, freshReceiver, acceptedBy, written, wrote, readOf, readOut, eventOf, taken, carrierOf, errorsOf};
+ghost use Rattle.modem.specs.RxHeld.{receiverOf, RxSound};
 
 pub struct Rx {
     pub resampler: Resampler,
@@ -60,168 +55,8 @@ pub struct TakenEvent {
     pub state: Rx,
 }
 
-// The first check that a write does not pass.
-fn check(samples: &[f32], accepted: u64, waiting: usize) -> Acceptance
-    requires { ⌜ accepted ≤ 4294967296 ⌝ }
-    ensures { λ r. ⌜ acceptanceOf r ≡ replyOf (refusedBy (now (samples .entry)) accepted waiting) ⌝ }
-{
-    let n = samples.len();
-    if 1024 < n {
-        return Acceptance::Refused(Refusal::TooManySamples);
-    }
-    if !all_in_range(samples) {
-        return Acceptance::Refused(Refusal::BadSample);
-    }
-    if 4294967296 < accepted + n as u64 {
-        return Acceptance::Refused(Refusal::OutOfSamples);
-    }
-    if 409 < waiting {
-        return Acceptance::Refused(Refusal::BytesWait);
-    }
-    Acceptance::Accepted
-}
-
-fn is_accepted(a: Acceptance) -> bool
-    ensures { λ r. ⌜ r ≡ isAccepted a ⌝ }
-{
-    match a {
-        Acceptance::Accepted => true,
-        Acceptance::Refused(_) => false,
-    }
-}
-
-fn zeros_256() -> [f64; 256] {
-    [0.0f64; 256]
-}
-
-fn zeros_1024() -> [f64; 1024] {
-    [0.0f64; 1024]
-}
-
 fn zeros_1026() -> [f64; 1026] {
     [0.0f64; 1026]
-}
-
-fn count_in(c: Counted) -> usize
-    ensures { λ r. ⌜ r ≡ countIn c ⌝ }
-{
-    match c {
-        Counted::Count(n) => n,
-        Counted::Refused(_) => 0,
-    }
-}
-
-// The resampler after a call's samples, and how many it made of them.
-struct Resampled {
-    state: Resampler,
-    count: usize,
-}
-
-// The samples of a call, at 8,000 Hz, to the front of out.
-fn resample_into(r: Resampler, samples: &[f32], out: &mut [f64]) -> Resampled
-    requires { ⌜ Sound r × (r .«dst_rate» ≡ 8000) × (length (now samples) ≤ 1024) × (length (now out) ≡ 1026) ⌝ }
-    ensures { λ p. ⌜ Resamples r (now (samples .entry)) (p .state) (p .count) (now (out .exit)) ⌝ }
-{
-    let mut in64 = zeros_1024();
-    widen_into(samples, &mut in64);
-    let n = samples.len();
-    let room = r.max_output_len(n);
-    let need = count_in(room);
-    let p = r.process(&in64[..n], &mut out[..need]);
-    let state = p.state;
-    let answer = p.answer;
-    let count = count_in(answer);
-    Resampled { state, count }
-}
-
-// The demodulator after samples at 8,000 Hz, how many bytes wait then, and the events.
-struct HeardAll {
-    demod: Demodulator,
-    count: usize,
-    events: Events,
-}
-
-// Hears samples at 8,000 Hz. What changes at each sample is small or lent.
-fn hear(d: Demodulator, samples: &[f64], held: &mut [u8; 512], from: usize, ev: Events) -> HeardAll
-    requires { ⌜ Hearable d (now samples) (now held) from ev ⌝ }
-    ensures { λ r. ⌜ HearsInto d (now (samples .entry)) from (now (held .entry)) ev (r .demod) (r .count) (now (held .exit)) (r .events) ⌝ }
-{
-    let rings = d.rings;
-    let mut mark_i = rings.mark_i;
-    let mut mark_q = rings.mark_q;
-    let mut space_i = rings.space_i;
-    let mut space_q = rings.space_q;
-    let mut core = d.core;
-    let corr = core.corr;
-    let mut sums = sums_before(mark_i, mark_q, space_i, space_q, corr.pos);
-    let mut count = from;
-    let mut noted = ev.held;
-    let mut notes = ev.count;
-    let mut i = 0;
-    while i < samples.len() {
-        let place = core.corr;
-        let t = core.step(
-            &mut mark_i,
-            &mut mark_q,
-            &mut space_i,
-            &mut space_q,
-            sums,
-            samples[i],
-        );
-        sums = next_sums(&mark_i, &mark_q, &space_i, &space_q, place.pos, sums);
-        let heard = t.heard;
-        let event = t.event;
-        count = keep_heard(held, count, heard);
-        notes = note_into(&mut noted, notes, event);
-        core = t.core;
-        i += 1;
-    }
-    let demod = Demodulator::of_parts(mark_i, mark_q, space_i, space_q, core);
-    let events = Events {
-        held: noted,
-        count: notes,
-    };
-    HeardAll {
-        demod,
-        count,
-        events,
-    }
-}
-
-// Hears a call's samples as they come, where they are at 8,000 Hz, from a scratch that has room for them.
-fn hear_from(
-    d: Demodulator,
-    samples: &[f32],
-    in64: &mut [f64],
-    held: &mut [u8; 512],
-    from: usize,
-    ev: Events,
-) -> HeardAll
-    requires { ⌜ Hearable d (now samples) (now held) from ev × (length (now samples) ≤ length (now in64)) ⌝ }
-    ensures { λ r. ⌜ HearsInto d (now (samples .entry)) from (now (held .entry)) ev (r .demod) (r .count) (now (held .exit)) (r .events) ⌝ }
-{
-    widen_into(samples, in64);
-    let n = samples.len();
-    hear(d, &in64[..n], held, from, ev)
-}
-
-// The same, with a scratch of its own. A short call has no need to clear a long one.
-fn hear_plain(
-    d: Demodulator,
-    samples: &[f32],
-    held: &mut [u8; 512],
-    from: usize,
-    ev: Events,
-) -> HeardAll
-    requires { ⌜ Hearable d (now samples) (now held) from ev × (length (now samples) ≤ 1024) ⌝ }
-    ensures { λ r. ⌜ HearsInto d (now (samples .entry)) from (now (held .entry)) ev (r .demod) (r .count) (now (held .exit)) (r .events) ⌝ }
-{
-    if samples.len() <= 256 {
-        let mut short = zeros_256();
-        return hear_from(d, samples, &mut short, held, from, ev);
-    }
-    let mut in64 = zeros_1024();
-    hear_from(d, samples, &mut in64, held, from, ev)
 }
 
 // The state after a write that no check refused, at 8,000 Hz. The resampler would copy, so it is left alone.

@@ -1,9 +1,8 @@
 -- What the resampler's public functions give, by the tests that lead there. Assumes nothing.
-use Prim.Native.Nat.{ℕ, zero, suc, _+_, _-_, _<_, _≤_}
+use Prim.Native.Nat.{ℕ, _+_, _-_, _<_, _≤_}
 use mathlib.Core.Path.{_≡_, refl, sym, ap, _∙_}
-use mathlib.Core.Bool.{Bool, true, false, not, _||_, _&&_, true≢false}
-use mathlib.Core.List.{List, [], _++_}
-use native.Mathlib.Numerals.{unary-clauses}
+use mathlib.Core.Bool.{Bool, true, false, _||_, true≢false}
+use mathlib.Core.List.{List, _++_}
 use native.Mathlib.Omega.{arith}
 use borrow.Author.Tests.{lt-ltb, le-ltb, ltb-false}
 use lib.Dec.{eqb, ltb}
@@ -11,12 +10,15 @@ use lib.ListN.{length, take, drop, replicate}
 use lib.Seq.{length-take-le, sets-eq}
 use lib.Ieee.{Float}
 use Rattle.numeric.specs.F64.{zero64}
-use Rattle.refusal.specs.Refusals.{Reply, given, refused, first, rateRefused, ratesRefused}
-use Rattle.resampling.specs.Resample.{Filter, Flow, State, Ran, state, flow, fed, tapsOf, filterOf, fresh, zeroWindow, maxOutputLen, tooMany, outcome, refusalOf, ranOver, processed}
-use Rattle.resampling.specs.ResampleHeld.{historyOf, filterIn, InRange, Sound, Run, run, into, fedInto}
+use Rattle.refusal.specs.Refusals.{given, refused, first, rateRefused, ratesRefused}
+use Rattle.feeding.specs.Flow.{Filter, Flow, Ran, flow, fed, zeroWindow}
+use Rattle.resampling.specs.Resample.{State, state, tapsOf, filterOf, fresh, maxOutputLen, tooMany, outcome, refusalOf, ranOver, processed}
+use Rattle.filtering.specs.FilterHeld.{historyOf}
+use Rattle.feeding.specs.FlowHeld.{filterIn, Run, run, into, fedInto}
+use Rattle.resampling.specs.ResampleHeld.{InRange, Sound}
 use Rattle.resampling.specs.declared.resample.Resampler.{Resampler}
-use Rattle.resampling.proofs.Ring.{history-same}
-use Rattle.resampling.specs.ResampleLaws.{fed-length}
+use Rattle.filtering.proofs.Ring.{history-same}
+use Rattle.feeding.specs.FlowLaws.{fed-length}
 
 -- ---- rates that are not refused are in range
 neither : (a b : Bool) → a || b ≡ false → (a ≡ false) × (b ≡ false)

@@ -1,5 +1,4 @@
 -- The definitions that the contracts of `resampling` cite, and the theorems about them.
-pub mod Design
 pub mod Resample
 pub mod ResampleLaws
 pub mod ResampleHeld

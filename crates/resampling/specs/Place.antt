@@ -3,18 +3,18 @@
 use Prim.Native.Nat.{ℕ, zero, suc, _+_, _-_, _*_, _^_, _≤_, _<_}
 use mathlib.Core.Path.{_≡_, refl, sym, ap, ap₂, _∙_, subst}
 use mathlib.Core.Bool.{Bool, true, false}
-use mathlib.Core.List.{List, [], _∷_, _++_}
-use native.Mathlib.Nat.{le-trans, le-refl, le-of-lt, mul-one, zero-mul, mul-lt-mul-of-pos-right}
+use mathlib.Core.List.{List, [], _∷_}
+use native.Mathlib.Nat.{le-refl, le-of-lt, mul-one, zero-mul, mul-lt-mul-of-pos-right}
 use native.Mathlib.Omega.{arith}
 use lib.Dec.{T, ltb, lit<, lit≤}
-use lib.ListN.{length, length-append}
+use lib.ListN.{length}
 use borrow.Author.Tests.{lt-ltb, le-ltb, ltb-true, ltb-false}
 use lib.Ieee.{Float, nan, inf, fin, round, sub, lt, ofInt, ofBits}
 use lib.Ieee.Positive.{num, den, den-pos}
 use Rattle.numeric.specs.F64.{_⊕_, _⊖_, _⊘_, _<ᶠ_, if_then_else_, whole, zero64, one64, two64}
 use Rattle.numeric.specs.Whole.{nonNegative, add-whole, sub-whole, lt-whole, div-whole}
 use Rattle.numeric.specs.Bounds.{AtMost, at-most-more, add-at-most, round-at-most}
-use Rattle.resampling.specs.Resample.{Filter, Flow, Out, Ran, ran, wants, windowed, pushed, emitted, drained, fed, zeroWindow, flow}
+use Rattle.feeding.specs.Flow.{Filter, Flow, Out, Ran, ran, wants, windowed, pushed, emitted, drained, fed, zeroWindow, flow}
 
 -- k samples went in, and the place is at most k - 1
 pub record Reached (k : ℕ) (s : Flow) : Type 0 where

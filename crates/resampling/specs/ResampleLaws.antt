@@ -1,41 +1,20 @@
 -- Laws of the resampler's definitions, for those who call it. Assumes nothing.
-use Prim.Native.Nat.{ℕ, zero, suc, _+_, _-_, _*_, _/_, _<_, _≤_, zero-le}
+use Prim.Native.Nat.{ℕ, _+_, _*_, _/_, _<_, _≤_}
 use mathlib.Core.Path.{_≡_, refl, ap, _∙_}
 use mathlib.Core.Bool.{Bool, true, false}
-use mathlib.Core.List.{List, [], _∷_, _++_}
+use mathlib.Core.List.{List, [], _++_}
 use native.Mathlib.Nat.{le-refl, mul-le-mul-left, mul-left-comm, add-mul, one-mul, div-lt-iff-lt-mul}
 use native.Mathlib.Omega.{arith}
 use borrow.Author.Tests.{le-ltb}
 use lib.Dec.{eqb}
-use lib.ListN.{length, drop, length-append}
+use lib.ListN.{length, drop}
 use lib.Ieee.{Float}
 use Rattle.numeric.specs.F64.{if_then_else_}
 use Rattle.numeric.specs.Counts.{outputLen}
 use Rattle.refusal.specs.Refusals.{first, given}
-use Rattle.resampling.specs.Resample.{Filter, Flow, State, Ran, ran, wants, pushed, emitted, drained, fed, filterOf, maxOutputLen, tooMany, refusalOf, ranOver, laid, outcome, processed}
-
--- ---- what is made is within the room
--- a property of both is one of the case
-either : (n : ℕ) (b : Bool) (p q : Ran) → length (p .out) ≤ n → length (q .out) ≤ n → length ((if b then p else q) .out) ≤ n
-either n true p q h k = h
-either n false p q h k = k
-
-pub drained-length : (f : Filter) (room : ℕ) (s : Flow) → length (drained f room s .out) ≤ room
-unfolding drained
-drained-length f zero s = zero-le
-drained-length f (suc room) s =
-    let h = drained-length f room (emitted f s .flow) in
-    either (suc room) (wants s) _ (ran [] s) (omega arith) zero-le
-
-pub fed-length : (f : Filter) (room : ℕ) (xs : List Float) (s : Flow) → length (fed f room xs s .out) ≤ room
-unfolding fed
-fed-length f room [] s = zero-le
-fed-length f room (x ∷ xs) s =
-    let d = drained f room (pushed f x s) in
-    let rest = fed f (room - length (d .out)) xs (d .flow) in
-    let h = drained-length f room (pushed f x s) in
-    let k = fed-length f (room - length (d .out)) xs (d .flow) in
-    either room (wants (d .flow)) d (ran (d .out ++ rest .out) (rest .flow)) h (rw (length-append (d .out) (rest .out)) (omega arith))
+use Rattle.feeding.specs.Flow.{ran, fed}
+use Rattle.feeding.specs.FlowLaws.{fed-length}
+use Rattle.resampling.specs.Resample.{State, filterOf, maxOutputLen, tooMany, refusalOf, ranOver, laid, outcome, processed}
 
 -- ---- nothing in, nothing out
 pub ran-none : (s : State) (room : ℕ) → ranOver s room [] ≡ ran [] (s .flow)

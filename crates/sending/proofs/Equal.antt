@@ -11,7 +11,8 @@ use lib.Seq.{take-length, take-append-seam, drop-append-seam}
 use lib.Ieee.{Float}
 use Rattle.numeric.specs.Counts.{need}
 use Rattle.bitqueue.specs.Bits.{BitsHeld}
-use Rattle.resampling.specs.Resample.{State, state, Ran, ran, ranOver}
+use Rattle.resampling.specs.Resample.{State, state, ranOver}
+use Rattle.feeding.specs.Flow.{Ran, ran}
 use Rattle.resampling.specs.ResampleHeld.{stateOf}
 use Rattle.refusal.specs.declared.Acceptance.the-variants.{Accepted}
 use Rattle.bell103.specs.declared.TonePair.{TonePair}

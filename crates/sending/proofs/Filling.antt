@@ -14,7 +14,8 @@ use lib.Ieee.{Float}
 use Rattle.numeric.specs.F64.{whole, _⊘_}
 use Rattle.numeric.specs.Bounds.{AtMost}
 use Rattle.numeric.specs.Counts.{need}
-use Rattle.resampling.specs.Resample.{Filter, Flow, State, state, Ran, ranOver, fed, filterOf, maxOutputLen}
+use Rattle.feeding.specs.Flow.{Filter, Flow, Ran, fed}
+use Rattle.resampling.specs.Resample.{State, state, ranOver, filterOf, maxOutputLen}
 use Rattle.resampling.specs.ResampleHeld.{stateOf}
 use Rattle.resampling.specs.Place.{Reached, Moved, fed-moved-some, fed-yields, step-short}
 use Rattle.resampling.specs.declared.resample.Resampler.{Resampler}

@@ -10,7 +10,8 @@ use lib.Ieee.{Float}
 use Rattle.numeric.specs.Counts.{need}
 use Rattle.refusal.specs.Refusals.{given, countOf, countIn}
 use Rattle.bitqueue.specs.Bits.{BitsHeld}
-use Rattle.resampling.specs.Resample.{State, Ran, ranOver, maxOutputLen, Outcome, outcome, processed, laid}
+use Rattle.resampling.specs.Resample.{State, ranOver, maxOutputLen, Outcome, outcome, processed, laid}
+use Rattle.feeding.specs.Flow.{Ran}
 use Rattle.resampling.specs.ResampleLaws.{accepted, ran-few}
 use Rattle.resampling.specs.ResampleHeld as resample
 use Rattle.resampling.specs.ResampleHeld.{stateOf}

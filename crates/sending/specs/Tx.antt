@@ -10,7 +10,8 @@ use Rattle.numeric.specs.F64.{_≤ᶠ_, if_then_else_, whole, zero64, one64}
 use Rattle.numeric.specs.Convert.{narrowed}
 use Rattle.numeric.specs.Counts.{need, samplesForBits}
 use Rattle.refusal.specs.Refusals.{Reply, given, refused, first, replyOf, rateRefused, dspRate}
-use Rattle.resampling.specs.Resample.{State, state, Ran, ranOver, maxOutputLen, fresh}
+use Rattle.resampling.specs.Resample.{State, state, ranOver, maxOutputLen, fresh}
+use Rattle.feeding.specs.Flow.{Ran}
 use Rattle.bell103.specs.Roles.{tonesOf}
 use Rattle.bell103.specs.Nco.{ncoNew}
 use Rattle.bell103.specs.declared.Role.{Role}

@@ -7,7 +7,8 @@ use lib.ListN.{length, take, drop}
 use lib.Ieee.{Float}
 use Rattle.numeric.specs.Counts.{need}
 use Rattle.bitqueue.specs.Bits.{queued, BitsHeld}
-use Rattle.resampling.specs.Resample.{State, state, Ran, ranOver, maxOutputLen}
+use Rattle.resampling.specs.Resample.{State, state, ranOver, maxOutputLen}
+use Rattle.feeding.specs.Flow.{Ran}
 use Rattle.resampling.specs.ResampleHeld as resample
 use Rattle.resampling.specs.ResampleHeld.{stateOf}
 use Rattle.resampling.specs.Place.{Reached}

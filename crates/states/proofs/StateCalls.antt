@@ -10,10 +10,12 @@ use lib.ListN.{length, getD, set, take, drop, replicate, length-append, length-d
 use lib.Seq.{append-snoc, drop-drop, getD-drop, length-take-le, paste, paste-suc, take-all, take-length, take-suc-set}
 use lib.Ieee.{Float, nan}
 use Rattle.numeric.specs.F64.{if_then_else_, zero64}
-use Rattle.resampling.specs.Design.{lowpass}
+use Rattle.filtering.specs.Design.{lowpass}
 use Rattle.resampling.specs.Resample.{tapsOf, faster}
-use Rattle.resampling.specs.ResampleHeld.{ringBack, walk, historyOf, flowOf, stateOf, Sound}
-use Rattle.modem.specs.Queue.{mostBytes, mostEvents}
+use Rattle.filtering.specs.FilterHeld.{ringBack, walk, historyOf}
+use Rattle.feeding.specs.FlowHeld.{flowOf}
+use Rattle.resampling.specs.ResampleHeld.{stateOf, Sound}
+use Rattle.queues.specs.Queue.{mostBytes, mostEvents}
 use Rattle.modem.specs.Rx.{Receiver}
 use Rattle.modem.specs.RxHeld.{receiverOf, RxSound}
 use Rattle.demodulation.specs.declared.demod.Demodulator.{Demodulator}

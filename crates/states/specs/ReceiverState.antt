@@ -8,7 +8,7 @@ use lib.Ieee.{Float, nan}
 use Rattle.numeric.specs.F64.{_⊘_, if_then_else_, whole, zero64, one64}
 use Rattle.refusal.specs.Refusals.{rateRefused}
 use Rattle.resampling.specs.Resample.{State, tapsOf}
-use Rattle.modem.specs.Queue.{mostBytes, mostEvents}
+use Rattle.queues.specs.Queue.{mostBytes, mostEvents}
 use Rattle.modem.specs.Rx.{Receiver, freshReceiver}
 use Rattle.detection.specs.declared.carrier.ToneDominance.{ToneDominance}
 use Rattle.demodulation.specs.declared.demod.Core.{Core}

@@ -4,7 +4,7 @@ use mathlib.Core.Path.{_≡_}
 use mathlib.Core.List.{List, _++_}
 use lib.ListN.{length, take, drop}
 use lib.Ieee.{Float}
-use Rattle.modem.specs.Queue.{mostBytes, mostEvents}
+use Rattle.queues.specs.Queue.{mostBytes, mostEvents}
 use Rattle.modem.specs.RxHeld.{receiverOf, RxSound}
 use Rattle.calls.specs.Receive.{called}
 use Rattle.calls.specs.declared.receive.Call.{Call}

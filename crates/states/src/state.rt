@@ -10,7 +10,7 @@ ghost use mathlib.Core.List.{_++_};
 ghost use Prim.Native.Nat.{_+_, _≤_, _-_, _/_, _<_};
 ghost use lib.ListN.{length, take, drop, replicate};
 ghost use Rattle.numeric.specs.F64.{zero64};
-ghost use Rattle.resampling.specs.ResampleHeld.{ringBack, historyOf};
+ghost use Rattle.filtering.specs.FilterHeld.{ringBack, historyOf};
 ghost use Rattle.modem.specs.RxHeld.{receiverOf, RxSound};
 ghost use Rattle.calls.specs.Receive.{callsIn};
 ghost use Rattle.states.specs.ReceiverState.{truth, windowNumbers, placeNumbers, toneNumbers, markNumbers, ownNumbers, blockNumber, lastNumbers, resamplerNumbers, ringNumbers, stateNumbers, stateLength, receiverAfter, shown, stateRun};

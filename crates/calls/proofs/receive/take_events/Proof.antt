@@ -1,8 +1,8 @@
 -- `receive::take_events` meets its contract. The invariant: the first i events that wait are in the buffer. Assumes nothing.
 use Rattle.calls.proofs.ReceiverCalls.{Taking, taking-start, taking-step, taking-end}
 use native.Mathlib.Omega.{arith}
-use Rattle.modem.specs.Queue.{noted}
-use Rattle.modem.specs.QueueLaws.{noted-length}
+use Rattle.queues.specs.Queue.{noted}
+use Rattle.queues.specs.QueueLaws.{noted-length}
 use lib.ListN.{length}
 use mathlib.Core.Path.{_≡_, refl, _∙_}
 use Prim.Native.Nat.{_-_, _≤_}

@@ -5,7 +5,8 @@ use native.Mathlib.Omega.{arith}
 use Rattle.resampling.specs.ResampleHeld.{stateOf}
 use Rattle.modem.specs.Rx.{acceptedBy, heardBy}
 use Rattle.modem.specs.RxHeld.{receiverOf}
-use Rattle.modem.proofs.Receiving.{passes, bytes-fit, plain}
+use Rattle.modem.proofs.Receiving.{passes, bytes-fit}
+use Rattle.hearing.proofs.Resampled.{plain}
 use Rattle.modem.proofs.rx.accept_plain.Statement.{statement}
 use Rattle.modem.proofs.rx.accept_plain.Tie as tie
 

@@ -7,7 +7,8 @@ use lib.Seq.{length-take-le}
 use Prim.Native.Nat.{_≤_}
 use mathlib.Core.Path.{_≡_, sym, _∙_}
 use lib.ListN.{length, take}
-use Rattle.modem.proofs.Receiving.{passes, bytes-fit, fits-scratch}
+use Rattle.modem.proofs.Receiving.{passes, bytes-fit}
+use Rattle.hearing.proofs.Resampled.{fits-scratch}
 use borrow.Author.Needs.{needs}
 use Rattle.modem.proofs.rx.accept_resampled.Statement.{statement}
 use Rattle.modem.proofs.rx.accept_resampled.Tie as tie

@@ -3,7 +3,8 @@ use Rattle.numeric.specs.F64.{zero64}
 use mathlib.Core.Path.{_≡_, refl, ap, _∙_}
 use lib.ListN.{length, take, length-replicate}
 use Rattle.resampling.proofs.Answers.{fresh-is}
-use Rattle.resampling.specs.ResampleHeld.{stateOf, flowOf}
+use Rattle.resampling.specs.ResampleHeld.{stateOf}
+use Rattle.feeding.specs.FlowHeld.{flowOf}
 use Rattle.resampling.specs.Resample.{tapsOf}
 use borrow.Author.Needs.{needs}
 use Rattle.resampling.proofs.resample.fresh_at.Statement.{statement}

@@ -1,7 +1,7 @@
 -- `state::back` meets its contract: the test is the definition's. Assumes nothing.
 use borrow.Author.Tests.{eq-eqb, ne-eqb}
 use native.Mathlib.Omega.{arith}
-use Rattle.resampling.specs.ResampleHeld.{ringBack}
+use Rattle.filtering.specs.FilterHeld.{ringBack}
 use borrow.Author.Needs.{needs}
 use Rattle.states.proofs.state.back.Statement.{statement}
 use Rattle.states.proofs.state.back.Tie as tie

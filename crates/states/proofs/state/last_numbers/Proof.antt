@@ -2,7 +2,7 @@
 use native.Mathlib.Omega.{arith}
 use lib.Dec.{le→leb}
 use lib.Ieee.{inFloat}
-use Rattle.modem.specs.QueueLaws.{queued-length, noted-length}
+use Rattle.queues.specs.QueueLaws.{queued-length, noted-length}
 use Rattle.modem.specs.RxHeld.{receiverOf}
 use borrow.Author.Needs.{needs}
 use Rattle.states.proofs.state.last_numbers.Statement.{statement}

@@ -1,7 +1,7 @@
 -- `state::newest_first` meets its contract. The invariant: what is copied, and then the rest of the ring, is the history. Assumes nothing.
 use Rattle.states.proofs.StateCalls.{newest-start, newest-step, newest-end}
 use native.Mathlib.Omega.{arith}
-use Rattle.resampling.specs.ResampleHeld.{ringBack, walk, historyOf}
+use Rattle.filtering.specs.FilterHeld.{ringBack, walk, historyOf}
 use lib.Ieee.{Float}
 use Rattle.numeric.specs.F64.{zero64}
 use lib.ListN.{length, take, length-set, length-replicate}

@@ -1,5 +1,6 @@
 -- `state::window_numbers` meets its contract: the step is the rates' quotient. Assumes nothing.
-use Rattle.resampling.specs.ResampleHeld.{stateOf, flowOf}
+use Rattle.resampling.specs.ResampleHeld.{stateOf}
+use Rattle.feeding.specs.FlowHeld.{flowOf}
 use Rattle.modem.specs.RxHeld.{receiverOf}
 use borrow.Author.Needs.{needs}
 use Rattle.states.proofs.state.window_numbers.Statement.{statement}

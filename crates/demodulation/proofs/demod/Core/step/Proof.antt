@@ -6,18 +6,19 @@ use borrow.Author.Needs.{needs}
 use borrow.Author.Tests.{not-true, not-false}
 use lib.Ieee.{Float}
 use Rattle.detection.specs.Carrier.{updated}
-use Rattle.demodulation.specs.Demod.{magnitudeOf, decisionOf, multiplied, latched, fedCore, finished, stepWith, stepOf}
+use Rattle.correlation.specs.Correlation.{magnitudeOf, decisionOf, multiplied}
+use Rattle.demodulation.specs.Demod.{latched, fedCore, finished, stepWith, stepOf}
 use Rattle.demodulation.specs.DemodLaws.{step-waits, step-decodes}
 use Rattle.detection.specs.declared.carrier.CarrierDetector.{CarrierDetector}
 use Rattle.demodulation.specs.declared.demod.Core.{Core}
 use Rattle.demodulation.specs.declared.demod.CoreStep.{CoreStep}
-use Rattle.demodulation.specs.declared.demod.Decision.{Decision}
+use Rattle.correlation.specs.declared.correlator.Decision.{Decision}
 use Rattle.demodulation.specs.declared.demod.Demodulator.{Demodulator}
 use Rattle.demodulation.specs.declared.demod.Latch.{Latch}
-use Rattle.demodulation.specs.declared.demod.Rings.{Rings}
+use Rattle.correlation.specs.declared.correlator.Rings.{Rings}
 use Rattle.framing.specs.declared.frame.Heard.the-variants.{Waiting}
 use Rattle.demodulation.specs.declared.demod.Event.the-variants.{Nothing}
-use Rattle.demodulation.specs.SummingLaws.{summed-kept, tone-end}
+use Rattle.correlation.specs.SummingLaws.{summed-kept, tone-end}
 use Rattle.demodulation.proofs.demod.Core.step.Statement.{statement}
 use Rattle.demodulation.proofs.demod.Core.step.Tie as tie
 

@@ -1,9 +1,9 @@
 -- `Rx::write` meets its contract: a write that no check refuses is accepted, and any other changes nothing. Assumes nothing.
 use Prim.Native.Nat.{ℕ}
 use Rattle.refusal.specs.Refusals.{replyOf}
-use Rattle.modem.specs.Rx.{refusedBy}
+use Rattle.samples.specs.Write.{refusedBy}
 use Rattle.modem.specs.RxHeld.{receiverOf}
-use Rattle.modem.specs.QueueLaws.{queued-length}
+use Rattle.queues.specs.QueueLaws.{queued-length}
 use mathlib.Core.Path.{_≡_, sym, ap, _∙_}
 use Rattle.modem.proofs.Receiving.{accepted-none, went-through, stopped}
 use borrow.Author.Needs.{needs}

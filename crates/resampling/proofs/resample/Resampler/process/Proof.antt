@@ -2,7 +2,8 @@
 use mathlib.Core.Path.{_≡_, sym, ap, _∙_}
 use Rattle.resampling.specs.Resample.{maxOutputLen, filterOf, tapsOf}
 use native.Mathlib.Omega.{arith}
-use Rattle.resampling.specs.ResampleHeld.{stateOf, flowOf, filterIn}
+use Rattle.resampling.specs.ResampleHeld.{stateOf}
+use Rattle.feeding.specs.FlowHeld.{flowOf, filterIn}
 use Rattle.resampling.proofs.Answers.{too-long, no-room, copied, went, filter-is}
 use borrow.Author.Needs.{needs}
 use Rattle.resampling.proofs.resample.Resampler.process.Statement.{statement}

@@ -1,0 +1,215 @@
+-- The resampler's loops, turn by turn, over a lent output. Assumes nothing.
+use Prim.Native.Nat.{ℕ, zero, suc, _+_, _-_, _<_, _≤_}
+use mathlib.Core.Path.{_≡_, refl, sym, ap, _∙_}
+use mathlib.Core.Bool.{Bool, true, false}
+use mathlib.Core.List.{List, [], _∷_, _++_, append-nil}
+use native.Mathlib.Nat.{add-zero, add-assoc}
+use native.Mathlib.Numerals.{add-one}
+use native.Mathlib.Omega.{arith}
+use lib.ListN.{length, getD, set, take, drop, length-append, length-drop, length-set, drop-of-length-le}
+use lib.Seq.{sets, length-sets, take-length, drop-cons}
+use lib.Ieee.{Float, nan}
+use Rattle.numeric.specs.F64.{_⊕_, if_then_else_}
+use Rattle.feeding.specs.Flow.{Filter, Flow, Ran, ran, wants, between, windowed, pushed, outWith, emitted, drained, fed}
+use Rattle.filtering.specs.Filter.{filtered, newest}
+use Rattle.filtering.specs.FilterHeld.{ringNext, historyOf, Filtered}
+use Rattle.feeding.specs.FlowHeld.{flowOf, filterIn, Run, run, into, drainedInto, fedInto}
+use Rattle.feeding.specs.declared.sample.Moving.{Moving}
+
+-- stores of one list and then another
+sets-append : (l : List Float) (i : ℕ) (xs ys : List Float) → sets l i (xs ++ ys) ≡ sets (sets l i xs) (i + length xs) ys
+sets-append l i [] ys = ap (λ (k : ℕ). sets l k ys) (sym (add-zero i))
+sets-append l i (x ∷ xs) ys = sets-append (set l i x) (suc i) xs ys ∙ ap (λ (k : ℕ). sets (sets (set l i x) (suc i) xs) k ys) (shift i (length xs))
+  where
+    shift : (i n : ℕ) → suc i + n ≡ i + suc n
+    shift i n = omega arith
+
+pub run-nil : (s : Flow) (out : List Float) (at : ℕ) → into out at (ran [] s) ≡ run s out at
+run-nil s out at = ap (λ (k : ℕ). run s out k) (add-zero at)
+
+module _ (f : Filter) (s : Flow) (out : List Float) (at : ℕ) where
+  drained-none : (room : ℕ) → wants s ≡ false → drained f room s ≡ ran [] s
+  unfolding drained
+  drained-none zero e = refl
+  drained-none (suc room) e = rw e
+
+  -- nothing is left to drain
+  pub drain-rest : wants s ≡ false → drainedInto f (run s out at) ≡ run s out at
+  unfolding drainedInto
+  drain-rest e = rw (drained-none (length out - at) e) (run-nil s out at)
+
+  -- no room is left
+  pub drain-full : length out ≤ at → drainedInto f (run s out at) ≡ run s out at
+  unfolding drainedInto drained
+  drain-full h =
+      let e : length out - at ≡ 0 = omega arith in
+      rw e (run-nil s out at)
+
+  -- one output sample
+  pub drain-turn : (y : Float) (s′ : Flow) → wants s ≡ true → at < length out → outWith y s′ ≡ emitted f s
+      → drainedInto f (run s out at) ≡ drainedInto f (run s′ (set out at y) (at + 1))
+  unfolding drainedInto drained
+  drain-turn y s′ e l o =
+      let r : length out - at ≡ suc (length out - (at + 1)) = omega arith in
+      rw (r, e, ← o, length-set, add-one) (ap (λ (k : ℕ). run (d .flow) (sets (set out at y) (suc at) (d .out)) k) (shift at (length (d .out))))
+    where
+      d : Ran
+      d = drained f (length out - suc at) s′
+
+      shift : (i n : ℕ) → i + suc n ≡ suc i + n
+      shift i n = omega arith
+
+-- ---- one input sample
+module _ (f : Filter) (s : Flow) (out : List Float) (at : ℕ) (x : Float) (xs : List Float) where
+  -- the outputs that it makes ready
+  abbrev ready : Ran
+  ready = drained f (length out - at) (pushed f x s)
+
+  stops : (t : Run) → t ≡ into out at ready → wants (t .flow) ≡ true → fedInto f (x ∷ xs) (run s out at) ≡ t
+  unfolding fedInto fed
+  stops t e w = rw (sym (ap (λ (r : Run). wants (r .flow)) e) ∙ w) (sym e)
+
+  goes-on : (t : Run) → t ≡ into out at ready → wants (t .flow) ≡ false → fedInto f (x ∷ xs) (run s out at) ≡ fedInto f xs t
+  unfolding fedInto fed
+  goes-on t e w =
+      rw (sym (ap (λ (r : Run). wants (r .flow)) e) ∙ w, e, length-sets, sets-append, length-append, less (length out) at (length (ready .out)), ← add-assoc)
+    where
+      less : (a b c : ℕ) → a - (b + c) ≡ a - b - c
+      less a b c = omega arith
+
+  -- it is the last
+  alone : fedInto f (x ∷ []) (run s out at) ≡ into out at ready
+  unfolding fedInto fed
+  alone = ap (into out at) (same (wants (ready .flow)))
+    where
+      same : (b : Bool) → (if b then ready else ran (ready .out ++ []) (ready .flow)) ≡ ready
+      same true = refl
+      same false = ap (λ (o : List Float). ran o (ready .flow)) (append-nil (ready .out))
+
+-- ---- an input in two parts: the second is taken where no output is still wanted after the first
+module _ (f : Filter) where
+  abbrev onward : Bool → Run → List Float → Run
+  onward true t ys = t
+  onward false t ys = fedInto f ys t
+
+  fed-parts : (x : Float) (xs ys : List Float) (r : Run) (b : Bool) → wants (fedInto f (x ∷ xs) r .flow) ≡ b
+      → fedInto f (x ∷ xs ++ ys) r ≡ onward b (fedInto f (x ∷ xs) r) ys
+  fed-parts x [] ys r b e = rw single (by b (sym (ap (λ (t : Run). wants (t .flow)) single) ∙ e))
+    where
+      t : Run
+      t = into (r .out) (r .at) (ready f (r .flow) (r .out) (r .at) x [])
+
+      single : fedInto f (x ∷ []) r ≡ t
+      single = alone f (r .flow) (r .out) (r .at) x []
+
+      by : (b : Bool) → wants (t .flow) ≡ b → fedInto f (x ∷ ys) r ≡ onward b t ys
+      by true w = stops f (r .flow) (r .out) (r .at) x ys t refl w
+      by false w = goes-on f (r .flow) (r .out) (r .at) x ys t refl w
+  fed-parts x (z ∷ xs) ys r b e = by (wants (t .flow)) refl (fed-parts z xs ys t)
+    where
+      t : Run
+      t = into (r .out) (r .at) (ready f (r .flow) (r .out) (r .at) x [])
+
+      by : (w : Bool) → wants (t .flow) ≡ w → ((b : Bool) → wants (fedInto f (z ∷ xs) t .flow) ≡ b → fedInto f (z ∷ xs ++ ys) t ≡ onward b (fedInto f (z ∷ xs) t) ys)
+          → fedInto f (x ∷ z ∷ xs ++ ys) r ≡ onward b (fedInto f (x ∷ z ∷ xs) r) ys
+      by true w rest =
+          let p : fedInto f (x ∷ z ∷ xs) r ≡ t = stops f (r .flow) (r .out) (r .at) x (z ∷ xs) t refl w in
+          let k : b ≡ true = sym e ∙ ap (λ (u : Run). wants (u .flow)) p ∙ w in
+          rw (k, p) (stops f (r .flow) (r .out) (r .at) x (z ∷ xs ++ ys) t refl w)
+      by false w rest =
+          let p : fedInto f (x ∷ z ∷ xs) r ≡ fedInto f (z ∷ xs) t = goes-on f (r .flow) (r .out) (r .at) x (z ∷ xs) t refl w in
+          let k = sym (ap (λ (u : Run). wants (u .flow)) p) ∙ e in
+          rw p (goes-on f (r .flow) (r .out) (r .at) x (z ∷ xs ++ ys) t refl w ∙ rest b k)
+
+-- in the shape in which the code has it: the sample at i of the input, with s′ the flow after it went in, and t the run after its outputs
+module _ (f : Filter) (s s′ : Flow) (out : List Float) (at : ℕ) (x : Float) (t : Run) where
+  pub drained-from : s′ ≡ pushed f x s → t ≡ drainedInto f (run s′ out at) → t ≡ into out at (drained f (length out - at) (pushed f x s))
+  unfolding drainedInto
+  drained-from e d = rw (← e) d
+
+module _ (f : Filter) (s : Flow) (out : List Float) (at : ℕ) (xs : List Float) (i : ℕ) (t : Run) (h : i < length xs)
+    (e : t ≡ into out at (drained f (length out - at) (pushed f (getD xs i nan) s))) where
+  pub fed-halt : wants (t .flow) ≡ true → fedInto f (drop i xs) (run s out at) ≡ t
+  fed-halt w = rw (drop-cons xs i nan h) (stops f s out at (getD xs i nan) (drop (suc i) xs) t e w)
+
+  pub fed-turn : wants (t .flow) ≡ false → fedInto f (drop i xs) (run s out at) ≡ fedInto f (drop (i + 1) xs) t
+  fed-turn w = rw (add-one, drop-cons xs i nan h) (goes-on f s out at (getD xs i nan) (drop (suc i) xs) t e w)
+
+-- the same of the samples at i and after it, two at a time
+module _ (f : Filter) (s : Flow) (out : List Float) (at : ℕ) (xs : List Float) (i : ℕ) (t : Run) (h : i + 1 < length xs)
+    (e : t ≡ fedInto f (getD xs i nan ∷ getD xs (i + 1) nan ∷ []) (run s out at)) where
+  two : drop i xs ≡ getD xs i nan ∷ getD xs (i + 1) nan ∷ drop (i + 2) xs
+  two =
+      let k : suc (i + 1) ≡ i + 2 = omega arith in
+      drop-cons xs i nan (omega arith) ∙ ap (λ (l : List Float). getD xs i nan ∷ l) (ap (λ (j : ℕ). drop j xs) (sym (add-one i)) ∙ drop-cons xs (i + 1) nan h ∙ ap (λ (j : ℕ). getD xs (i + 1) nan ∷ drop j xs) k)
+
+  pub pair-halt : wants (t .flow) ≡ true → fedInto f (drop i xs) (run s out at) ≡ t
+  pair-halt w = rw two (fed-parts f (getD xs i nan) (getD xs (i + 1) nan ∷ []) (drop (i + 2) xs) (run s out at) true (sym (ap (λ (u : Run). wants (u .flow)) e) ∙ w) ∙ sym e)
+
+  pub pair-turn : wants (t .flow) ≡ false → fedInto f (drop i xs) (run s out at) ≡ fedInto f (drop (i + 2) xs) t
+  pair-turn w = rw (two, e) (fed-parts f (getD xs i nan) (getD xs (i + 1) nan ∷ []) (drop (i + 2) xs) (run s out at) false (sym (ap (λ (u : Run). wants (u .flow)) e) ∙ w))
+
+-- two samples alone: t is the run after the first's outputs, and u after the second's
+module _ (f : Filter) (s : Flow) (out : List Float) (at : ℕ) (x z : Float) (t : Run) (e : t ≡ into out at (drained f (length out - at) (pushed f x s))) where
+  pub first-only : wants (t .flow) ≡ true → t ≡ fedInto f (x ∷ z ∷ []) (run s out at)
+  first-only w = sym (stops f s out at x (z ∷ []) t e w)
+
+  pub both-taken : (u : Run) → wants (t .flow) ≡ false → u ≡ into (t .out) (t .at) (drained f (length (t .out) - t .at) (pushed f z (t .flow))) → u ≡ fedInto f (x ∷ z ∷ []) (run s out at)
+  both-taken u w d = d ∙ sym (goes-on f s out at x (z ∷ []) t e w ∙ alone f (t .flow) (t .out) (t .at) z [])
+
+-- the part of the input from i on
+pub fed-rest : (f : Filter) (r : Run) (xs : List Float) (i : ℕ) (t u : Run) → t ≡ fedInto f (take (length xs - i) (drop i xs)) r → fedInto f (drop i xs) r ≡ u → t ≡ u
+fed-rest f r xs i t u e g = e ∙ ap (λ (l : List Float). fedInto f l r) (rw (← length-drop) (take-length (drop i xs))) ∙ g
+
+pub fed-done : (f : Filter) (s : Flow) (out : List Float) (at : ℕ) (xs : List Float) (i : ℕ) → length xs ≤ i → fedInto f (drop i xs) (run s out at) ≡ run s out at
+unfolding fedInto fed
+fed-done f s out at xs i h = rw (drop-of-length-le xs h) (run-nil s out at)
+
+-- ---- going down in rate, the outputs leave the filter's history as it is
+emitted-history : (f : Filter) (s : Flow) → f .decimating ≡ true → emitted f s .flow .history ≡ s .history
+unfolding emitted
+emitted-history f s e = rw e
+
+history-kept : (f : Filter) (room : ℕ) (s : Flow) → f .decimating ≡ true → drained f room s .flow .history ≡ s .history
+unfolding drained
+history-kept f zero s e = refl
+history-kept f (suc room) s e = by (wants s) (history-kept f room (emitted f s .flow) e ∙ emitted-history f s e)
+  where
+    d : Ran
+    d = drained f room (emitted f s .flow)
+
+    by : (b : Bool) → d .flow .history ≡ s .history → (if b then ran (emitted f s .y ∷ d .out) (d .flow) else ran [] s) .flow .history ≡ s .history
+    by true h = h
+    by false h = refl
+
+-- so that the filter's output for the next sample is still what it was
+pub still-ahead : (f : Filter) (s : Flow) (out : List Float) (at : ℕ) (t : Run) (z y : Float) → f .decimating ≡ true → t ≡ drainedInto f (run s out at)
+    → y ≡ filtered (f .taps) (newest z (s .history)) → windowed (t .flow) (newest z (t .flow .history)) y ≡ pushed f z (t .flow)
+unfolding drainedInto pushed
+still-ahead f s out at t z y e d a =
+    let k : t .flow .history ≡ s .history = ap (λ (r : Run). r .flow .history) d ∙ history-kept f (length out - at) s e in
+    rw (e, k, a)
+
+-- ---- one sample in and one sample out, over the code's ring and window
+module _ (n : ℕ) (taps ring ring′ : List Float) (m : Moving) where
+  abbrev on : ℕ → Float → Moving
+  on p step = record { «fir_pos» = p; «herm_hist» = m .«herm_hist»; «frac_pos» = m .«frac_pos» ⊕ step; «n_pushed» = m .«n_pushed» }
+
+  pub pushed-down : (d : Bool) (step x y : Float) (p : ℕ) → d ≡ true → Filtered n (m .«fir_pos») taps x ring ring′ y → p ≡ ringNext n (m .«fir_pos»)
+      → windowed (flowOf n ring′ m) (historyOf n p ring′) y ≡ pushed (filterIn n taps d step) x (flowOf n ring m)
+  unfolding flowOf pushed
+  pushed-down d step x y p e f g = rw (e, g, f .history, f .value)
+
+  pub pushed-up : (d : Bool) (step x : Float) → d ≡ false → windowed (flowOf n ring m) (historyOf n (m .«fir_pos») ring) x ≡ pushed (filterIn n taps d step) x (flowOf n ring m)
+  unfolding flowOf pushed
+  pushed-up d step x e = rw e
+
+  pub emitted-down : (d : Bool) (step y : Float) → d ≡ true → y ≡ between (flowOf n ring m)
+      → outWith y (flowOf n ring (on (m .«fir_pos») step)) ≡ emitted (filterIn n taps d step) (flowOf n ring m)
+  unfolding flowOf emitted
+  emitted-down d step y e g = rw (e, g)
+
+  pub emitted-up : (d : Bool) (step y z : Float) (p : ℕ) → d ≡ false → y ≡ between (flowOf n ring m) → Filtered n (m .«fir_pos») taps y ring ring′ z
+      → p ≡ ringNext n (m .«fir_pos») → outWith z (flowOf n ring′ (on p step)) ≡ emitted (filterIn n taps d step) (flowOf n ring m)
+  unfolding flowOf emitted
+  emitted-up d step y z p e g f q = rw (e, q, f .history, f .value, g)

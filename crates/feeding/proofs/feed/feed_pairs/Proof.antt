@@ -1,0 +1,121 @@
+-- `feed::feed_pairs` meets its contract. The invariant: what the rest of the input does from where the loop stands is what the whole does from the start. Assumes nothing.
+use native.Mathlib.Omega.{arith}
+use Prim.Native.Nat.{_-_, _≤_}
+use mathlib.Core.Bool.{true}
+use mathlib.Core.Path.{_≡_, refl, sym, _∙_}
+use lib.ListN.{length, drop}
+use Rattle.feeding.proofs.Running.{pair-turn, pair-halt, fed-rest}
+use Rattle.feeding.specs.Flow.{wants}
+use Rattle.feeding.specs.FlowHeld.{flowOf, filterIn, run, fedInto}
+use Rattle.filtering.specs.FilterHeld.{Placed}
+use borrow.Author.Needs.{needs}
+use Rattle.feeding.proofs.feed.feed_pairs.Statement.{statement}
+use Rattle.feeding.proofs.feed.feed_pairs.Tie as tie
+
+abbrev Inv-loop : tie.InvT-loop
+Inv-loop taps hist₀ n step input output₀ moving₀ at₀ i₀ hist output moving at i =
+    (fedInto (filterIn n taps true step) (drop i input) (run (flowOf n hist moving) output at) ≡ fedInto (filterIn n taps true step) input (run (flowOf n hist₀ moving₀) output₀ 0))
+    × Placed n (moving .«fir_pos») taps hist × (length output ≡ length output₀) × (i ≤ length input)
+
+abbrev μ-loop : tie.MeasureT-loop
+μ-loop taps hist₀ n step input output₀ moving₀ at₀ i₀ hist output moving at i = length input - i
+
+loop-holds : tie.Need-loop-holds Inv-loop μ-loop
+loop-holds c = (refl, c .before .before .pre, refl, omega arith)
+
+add-loop : tie.Need-add-loop Inv-loop μ-loop
+add-loop c = omega (arith, c .loop .inv .3, c .before .before .before .good)
+
+mul-feed-two : tie.Need-mul-feed-two Inv-loop μ-loop
+mul-feed-two c = search needs
+
+shared-slice-read-feed-two : tie.Need-shared-slice-read-feed-two Inv-loop μ-loop
+shared-slice-read-feed-two c = search needs
+
+add-feed-two : tie.Need-add-feed-two Inv-loop μ-loop
+add-feed-two c = search needs
+
+mul-feed-two-2 : tie.Need-mul-feed-two-2 Inv-loop μ-loop
+mul-feed-two-2 c = search needs
+
+shared-slice-read-feed-two-2 : tie.Need-shared-slice-read-feed-two-2 Inv-loop μ-loop
+shared-slice-read-feed-two-2 c = search needs
+
+feed-two-requires : tie.Need-feed-two-requires Inv-loop μ-loop
+feed-two-requires c κs = c .before .before .before .before .before .loop .inv .1
+
+same-length : tie.Need-same-length Inv-loop μ-loop
+same-length c = search needs
+
+returns : tie.Need-returns Inv-loop μ-loop
+unfolding wants flowOf
+returns c =
+    let l = c .before .before .before .before .before .before .before .before .before .before .before .before .loop in
+    let f = c .before .before .before .before .before .before .feed-two .ensures in
+    let t = c .before .before .before .before .before .before .before .before .before .before .before .loop-test .taken in
+    (sym (pair-halt _ _ _ _ _ _ _ t (f .0) (c .if1 .taken)) ∙ l .inv .0, f .1)
+
+add-i : tie.Need-add-i Inv-loop μ-loop
+add-i c = search needs
+
+loop-less : tie.Need-loop-less Inv-loop μ-loop
+loop-less c = search needs
+
+loop-again : tie.Need-loop-again Inv-loop μ-loop
+unfolding wants flowOf
+loop-again c =
+    let l = c .before .before .before .before .before .before .before .before .before .before .before .before .loop in
+    let f = c .before .before .before .before .before .before .feed-two .ensures in
+    let t = c .before .before .before .before .before .before .before .before .before .before .before .loop-test .taken in
+    (sym (pair-turn _ _ _ _ _ _ _ t (f .0) (c .if1 .left)) ∙ l .inv .0, f .1, search needs, omega (arith, t))
+
+mul-feed-singly : tie.Need-mul-feed-singly Inv-loop μ-loop
+mul-feed-singly c = search needs
+
+sub-feed-singly : tie.Need-sub-feed-singly Inv-loop μ-loop
+sub-feed-singly c = search needs
+
+part-feed-singly-start : tie.Need-part-feed-singly-start Inv-loop μ-loop
+part-feed-singly-start c = search needs
+
+part-feed-singly-end : tie.Need-part-feed-singly-end Inv-loop μ-loop
+part-feed-singly-end c = search needs
+
+feed-singly-requires : tie.Need-feed-singly-requires Inv-loop μ-loop
+feed-singly-requires c κs = c .before .before .before .before .loop .inv .1
+
+same-length-2 : tie.Need-same-length-2 Inv-loop μ-loop
+same-length-2 c = search needs
+
+returns-2 : tie.Need-returns-2 Inv-loop μ-loop
+returns-2 c =
+    let l = c .before .before .before .before .before .before .before .loop in
+    let g = c .before .before .feed-singly .ensures in
+    (fed-rest _ _ (c .before .before .before .before .before .before .before .before .before .before .args .input .now) (l .i) _ _ (g .0) (l .inv .0), g .1)
+
+pub feed-pairs-spec : {M : Type 1} → statement M
+feed-pairs-spec =
+    tie.close
+    (tie.spec
+    Inv-loop
+    μ-loop
+    loop-holds
+    add-loop
+    mul-feed-two
+    shared-slice-read-feed-two
+    add-feed-two
+    mul-feed-two-2
+    shared-slice-read-feed-two-2
+    feed-two-requires
+    same-length
+    returns
+    add-i
+    loop-less
+    loop-again
+    mul-feed-singly
+    sub-feed-singly
+    part-feed-singly-start
+    part-feed-singly-end
+    feed-singly-requires
+    same-length-2
+    returns-2)

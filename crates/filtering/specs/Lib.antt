@@ -1,0 +1,4 @@
+-- The definitions that the contracts of `filtering` cite.
+pub mod Design
+pub mod Filter
+pub mod FilterHeld

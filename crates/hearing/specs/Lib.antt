@@ -1,0 +1,2 @@
+-- The definitions that the contracts of `hearing` cite.
+pub mod Hear

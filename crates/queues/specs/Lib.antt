@@ -1,0 +1,3 @@
+-- The definitions that the contracts of `queues` cite, and the theorems about them.
+pub mod Queue
+pub mod QueueLaws

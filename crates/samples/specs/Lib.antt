@@ -1,0 +1,3 @@
+-- The definitions that the contracts of `samples` cite.
+pub mod Samples
+pub mod Write
