@@ -11,7 +11,7 @@ use Rattle.refusal.specs.Refusals.{Reply, replyOf, first, rateRefused}
 use Rattle.modem.specs.Queue.{notingAll}
 use Rattle.modem.specs.Rx.{Demod, heardBy, freshDemod, refusedBy}
 use Rattle.modem.specs.RxCalls.{admitted}
-use Rattle.tide.specs.Desk.{Line, Desk, freshDesk, addBytes, linesIn, verdictsIn, lastOf}
+use Rattle.desk.specs.Desk.{Line, Desk, freshDesk, addBytes, linesIn, verdictsIn, lastOf}
 
 -- "State: station, receiver, samples accepted (for 31), the unended line (its first 64 characters and whether there were more),
 -- reading (W and level) or none, one count for each line answer": the desk has the station, the line, the reading and the counts
