@@ -1,5 +1,4 @@
 -- Laws that the proofs of `board` cite.
-pub mod Parts
 pub mod Writing
 pub mod Running
 pub mod Listening

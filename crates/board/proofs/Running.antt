@@ -17,7 +17,7 @@ use Rattle.board.specs.Runs.{writesOf, numbersOf, numbersAll, writesRun,
 use Rattle.board.specs.declared.board.Board.{Board}
 use Rattle.board.specs.declared.board.Written.{Written}
 use Rattle.board.specs.declared.writes.Place.{Place}
-use Rattle.board.specs.declared.writes.Told.{Told}
+use Rattle.boardparts.specs.declared.told.Told.{Told}
 
 -- ---- one write: the samples up to e are lent, and its answer's numbers are written
 pub steps : (p : Place) (n e : ℕ) (s : List Float) (w : Written) (t : Told) (at : ℕ) (a a′ : List ℕ)

@@ -22,14 +22,15 @@ use Rattle.refusal.specs.declared.Acceptance.{Acceptance}
 use Rattle.refusal.specs.declared.Acceptance.the-variants.{Accepted, Refused}
 use Rattle.modem.specs.declared.rx.Rx.{Rx}
 use Rattle.tide.specs.Frame.{total}
-use Rattle.tide.specs.Desk as tide
-use Rattle.tide.specs.DeskLaws.{holds-bytes}
-use Rattle.tide.specs.Held as desks
-use Rattle.tide.specs.declared.desk.Desk.{Desk}
-use Rattle.tide.specs.declared.desk.Fed.{Fed}
+use Rattle.desk.specs.Desk as tide
+use Rattle.desk.specs.DeskLaws.{holds-bytes}
+use Rattle.desk.specs.Held as desks
+use Rattle.desk.specs.declared.desk.Desk.{Desk}
+use Rattle.desk.specs.declared.desk.Fed.{Fed}
+use Rattle.boardparts.specs.Station.{checked}
 use Rattle.board.specs.Plain as plain
 use Rattle.board.specs.PlainLaws.{events-accepted, events-refused, after-accepted, answer-accepted, after-refused, answer-refused}
-use Rattle.board.specs.Held.{plainOf, eventsIn, answerOf, checked, Few, BoardSound, Makes, Writes, ReadsTo}
+use Rattle.board.specs.Held.{plainOf, eventsIn, answerOf, Few, BoardSound, Makes, Writes, ReadsTo}
 use Rattle.board.specs.declared.board.Board.{Board}
 use Rattle.board.specs.declared.board.Answer.the-variants as answer
 use Rattle.board.specs.declared.board.Written.{Written}

@@ -13,7 +13,7 @@ use Rattle.tide.specs.Examples.{text}
 use Rattle.tide.specs.Hex.{hex, allHex, unhex}
 use Rattle.tide.specs.Frame.{total, stationOf, stampOf, ageOf, levelOf, signed, waterOf}
 use Rattle.tide.specs.Judge.{Shown, shows, later, settle, ofFields, ofFrame, ofLine, judge}
-use Rattle.tide.specs.Desk.{Desk, freshDesk, place, bump, verdict, ended, longer, grown, addByte, addBytes, verdictsIn, lastOf}
+use Rattle.desk.specs.Desk.{Desk, freshDesk, place, bump, verdict, ended, longer, grown, addByte, addBytes, verdictsIn, lastOf}
 
 pub data Example : Type 0 where
   -- a byte, and its ten bits

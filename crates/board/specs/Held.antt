@@ -3,22 +3,17 @@ use Prim.Native.Nat.{ℕ, _+_, _*_, _≤_}
 use mathlib.Core.Path.{_≡_}
 use mathlib.Core.Bool.{Bool}
 use mathlib.Core.List.{List, []}
-use lib.Dec.{eqb}
 use lib.ListN.{length}
 use lib.Ieee.{Float}
-use Rattle.numeric.specs.F64.{if_then_else_}
 use Rattle.refusal.specs.Refusals.{numberOf, acceptanceOf}
 use Rattle.framing.specs.Framing as framing
 use Rattle.modem.specs.RxHeld.{receiverOf, RxSound}
 use Rattle.bell103.specs.declared.Role.{Role}
-use Rattle.refusal.specs.declared.Refusal.the-variants.{Station}
-use Rattle.refusal.specs.declared.Acceptance.{Acceptance}
-use Rattle.refusal.specs.declared.Acceptance.the-variants.{Accepted, Refused}
 use Rattle.modem.specs.declared.rx.Rx.{Rx}
 use Rattle.tide.specs.Frame.{total}
-use Rattle.tide.specs.Desk.{addBytes, linesIn, verdictsIn, lastOf}
-use Rattle.tide.specs.Held.{deskOf, Sound}
-use Rattle.tide.specs.declared.desk.Desk.{Desk}
+use Rattle.desk.specs.Desk.{addBytes, linesIn, verdictsIn, lastOf}
+use Rattle.desk.specs.Held.{deskOf, Sound}
+use Rattle.desk.specs.declared.desk.Desk.{Desk}
 use Rattle.board.specs.Plain as plain
 use Rattle.board.specs.declared.board.Board.{Board}
 use Rattle.board.specs.declared.board.Answer as code
@@ -38,11 +33,6 @@ eventsIn b = receiverOf (b .rx) .noted
 abbrev pub answerOf : code.Answer → plain.Answer
 answerOf (answer.Refused r) = plain.refused (numberOf r)
 answerOf (answer.Heard bytes lines last) = plain.heard bytes lines last
-
--- `new`'s answer once the receiver's is known
-unfoldable pub checked : Acceptance → ℕ → Acceptance
-checked (Refused r) station = Refused r
-checked Accepted station = if eqb station 0 then Refused Station else Accepted
 
 -- ten for each line judged and for each byte that waits, and the bits of a byte begun, are at most three for each sample accepted: a byte has
 -- ten bits, and a sample makes three steps at the most. So no count passes its 64 bits

@@ -4,7 +4,7 @@ use native.Mathlib.Omega.{arith}
 use Rattle.modem.specs.RxHeld.{receiverOf}
 use Rattle.modem.specs.RxCalls.{sound-count}
 use Rattle.tide.specs.Frame.{total}
-use Rattle.tide.specs.Held.{mostCount}
+use Rattle.desk.specs.Held.{mostCount}
 use Rattle.board.specs.Held.{Few, BoardSound}
 use Rattle.board.specs.declared.board.Board.{Board}
 

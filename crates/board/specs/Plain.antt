@@ -12,7 +12,7 @@ use Rattle.queues.specs.Queue.{notingAll}
 use Rattle.modem.specs.Rx.{Demod, heardBy, freshDemod}
 use Rattle.samples.specs.Write.{refusedBy}
 use Rattle.modem.specs.RxCalls.{admitted}
-use Rattle.tide.specs.Desk.{Line, Desk, freshDesk, addBytes, linesIn, verdictsIn, lastOf}
+use Rattle.desk.specs.Desk.{Line, Desk, freshDesk, addBytes, linesIn, verdictsIn, lastOf}
 
 -- "State: station, receiver, samples accepted (for 31), the unended line (its first 64 characters and whether there were more),
 -- reading (W and level) or none, one count for each line answer": the desk has the station, the line, the reading and the counts

@@ -15,8 +15,8 @@ use Rattle.samples.specs.Samples.{allInRange}
 use Rattle.queues.specs.Queue.{notingAll}
 use Rattle.modem.specs.Rx.{heardBy}
 use Rattle.modem.specs.RxCalls.{none-wait, never-waits, admitted-same}
-use Rattle.tide.specs.Desk.{Line, Desk, addBytes, linesIn, verdictsIn, lastOf}
-use Rattle.tide.specs.DeskLaws.{addBytes-append, linesIn-append, verdictsIn-append}
+use Rattle.desk.specs.Desk.{Line, Desk, addBytes, linesIn, verdictsIn, lastOf}
+use Rattle.desk.specs.DeskLaws.{addBytes-append, linesIn-append, verdictsIn-append}
 use Rattle.board.specs.Plain.{Plain, eventsAfter, fresh, newNumber, newOf, number, accepts, bytesOf, took, after, lines, verdicts, Answer, refused, heard, answer, afterAll, linesAll, verdictsAll, answersAll, endedIn}
 
 -- ---- the number of a refusal: 3, 4 or 31, the first that applies

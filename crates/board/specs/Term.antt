@@ -11,7 +11,7 @@ use Rattle.tide.specs.Hex.{hexLine}
 use Rattle.tide.specs.Frame.{total, readerOf, Intact, Writer, Rules, bitsOf, lineBy}
 use Rattle.tide.specs.Judge.{Shown, none, shows, Verdict, judge, settle, ofFields, ofLine}
 use Rattle.tide.specs.JudgeLaws.{Passes}
-use Rattle.tide.specs.Desk.{Line, Desk, IsAnswer, countOf, verdict, shownOn, answersOn, times, goods, AtMost, Best}
+use Rattle.desk.specs.Desk.{Line, Desk, IsAnswer, countOf, verdict, shownOn, answersOn, times, goods, AtMost, Best}
 use Rattle.board.specs.Plain.{Plain, Answer, afterAll, linesAll, verdictsAll, answersAll, endedIn}
 
 -- ---- the lines judged, in order

@@ -12,8 +12,8 @@ use Rattle.tide.specs.Hex.{hexLine}
 use Rattle.tide.specs.Frame.{total, readerOf, Intact, Writer, Rules, lineBy}
 use Rattle.tide.specs.Judge.{Shown, none, shows, Verdict, judge, ofLine}
 use Rattle.tide.specs.JudgeLaws as judging
-use Rattle.tide.specs.Desk.{Line, Desk, freshDesk, place, answersOn, times, Good, Below, AtMost, Best, addBytes, linesIn, verdictsIn}
-use Rattle.tide.specs.DeskLaws as desks
+use Rattle.desk.specs.Desk.{Line, Desk, freshDesk, place, answersOn, times, Good, Below, AtMost, Best, addBytes, linesIn, verdictsIn}
+use Rattle.desk.specs.DeskLaws as desks
 use Rattle.board.specs.Plain.{Plain, fresh, afterAll, linesAll, verdictsAll, answersAll}
 use Rattle.board.specs.PlainLaws.{heardAll, all-desk, all-lines, all-verdicts, all-ended}
 use Rattle.board.specs.Term.{stands, given, lineOf, onFields, JudgedAs, Term3}

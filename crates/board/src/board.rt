@@ -1,18 +1,20 @@
 // The board: the receiver, and the desk that judges the lines.
 use bell103::Role;
+use boardparts::counts::sum_of;
+use boardparts::station::check_station;
+use desk::Desk;
 use modem::rx::Rx;
 use refusal::Acceptance;
 use refusal::Refusal;
-use tide::Desk;
 use tide::Reading;
 ghost use mathlib.Core.Path.{_≡_};
-ghost use Prim.Native.Nat.{_≤_};
 ghost use lib.ListN.{length};
 ghost use Rattle.modem.specs.RxHeld.{RxSound};
 ghost use Rattle.tide.specs.Frame.{total};
-ghost use Rattle.tide.specs.Held.{shownOf, Sound, mostCount};
-ghost use Rattle.tide.specs.Desk.{countOf};
-ghost use Rattle.board.specs.Held.{plainOf, checked, BoardSound, Makes, Writes, ReadsTo, Few};
+ghost use Rattle.tide.specs.Held.{shownOf};
+ghost use Rattle.desk.specs.Held.{Sound};
+ghost use Rattle.desk.specs.Desk.{countOf};
+ghost use Rattle.board.specs.Held.{plainOf, BoardSound, Makes, Writes, ReadsTo, Few};
 
 pub struct Board {
     pub rx: Rx,
@@ -34,21 +36,6 @@ pub enum Answer {
 pub struct Written {
     pub answer: Answer,
     pub state: Board,
-}
-
-// Refusal 2, where 1 does not apply.
-fn check_station(answer: Acceptance, station: u16) -> Acceptance
-    ensures { λ r. ⌜ r ≡ checked answer station ⌝ }
-{
-    match answer {
-        Acceptance::Refused(_) => answer,
-        Acceptance::Accepted => {
-            if station == 0 {
-                return Acceptance::Refused(Refusal::Station);
-            }
-            Acceptance::Accepted
-        }
-    }
 }
 
 fn zeros_512() -> [u8; 512]
@@ -78,20 +65,6 @@ fn read_all(rx: Rx, desk: Desk) -> Written
         last: f.last,
     };
     Written { answer, state }
-}
-
-// All counts together.
-fn sum_of(counts: [u64; 12]) -> u64
-    requires { ⌜ (length counts ≡ 12) × (total counts ≤ mostCount) ⌝ }
-    ensures { λ r. ⌜ r ≡ total counts ⌝ }
-{
-    let mut sum = 0;
-    let mut i = 0;
-    while i < 12 {
-        sum += counts[i];
-        i += 1;
-    }
-    sum
 }
 
 impl Board {

@@ -2,11 +2,15 @@
 use crate::board::Answer;
 use crate::board::Board;
 use bell103::Role;
+use boardparts::told::Told;
+use boardparts::told::tell;
+use boardparts::told::writes_in;
+use callparts::ends::part_end;
 use refusal::Acceptance;
 ghost use mathlib.Core.Path.{_≡_};
-ghost use mathlib.Core.List.{[], _∷_, _++_};
-ghost use Prim.Native.Nat.{min, _+_, _-_, _/_, _≤_};
-ghost use lib.ListN.{length, take, drop};
+ghost use mathlib.Core.List.{[], _∷_};
+ghost use Prim.Native.Nat.{_+_, _≤_};
+ghost use lib.ListN.{length};
 ghost use Rattle.board.specs.Held.{answerOf, BoardSound};
 ghost use Rattle.board.specs.Runs.{numbersOf, Within, Stepped, RunFrom, Listens};
 
@@ -15,14 +19,6 @@ pub struct Listened {
     pub answer: Acceptance,
     pub writes: usize,
     pub state: Board,
-}
-
-// An answer's four numbers.
-struct Told {
-    number: u32,
-    bytes: u64,
-    lines: u64,
-    last: u8,
 }
 
 fn told_of(answer: Answer) -> Told
@@ -42,33 +38,6 @@ fn told_of(answer: Answer) -> Told
             last,
         },
     }
-}
-
-// Writes the four numbers at `at`.
-fn tell(answers: &mut [u64], at: usize, t: Told)
-    requires { ⌜ at + 4 ≤ length (now answers) ⌝ }
-    ensures { λ _. ⌜ now (answers .exit) ≡ take at (now (answers .entry)) ++ (t .number ∷ t .bytes ∷ t .lines ∷ t .last ∷ drop (at + 4) (now (answers .entry))) ⌝ }
-{
-    answers[at] = t.number as u64;
-    answers[at + 1] = t.bytes;
-    answers[at + 2] = t.lines;
-    answers[at + 3] = t.last as u64;
-}
-
-// How many of the writes have room for four numbers.
-fn writes_in(writes: usize, room: usize) -> usize
-    ensures { λ r. ⌜ r ≡ min writes (room / 4) ⌝ }
-{
-    if writes < room / 4 { writes } else { room / 4 }
-}
-
-// The end of the next samples, or of all of them.
-fn part_end(from: usize, samples: u32, all: usize) -> usize
-    requires { ⌜ from ≤ all ⌝ }
-    ensures { λ r. ⌜ (r ≡ from + min samples (all - from)) × (from ≤ r) × (r ≤ all) ⌝ }
-{
-    let n = samples as usize;
-    if n < all - from { from + n } else { all }
 }
 
 // Where a list of writes stands: the board, and how many of the samples are behind it.

@@ -14,11 +14,11 @@ use Rattle.resampling.specs.Resample.{State, fresh, Made, made, newOf, Outcome,
 use Rattle.feeding.specs.Flow.{Ran}
 use Rattle.resampling.specs.ResampleHeld.{stateOf, Sound}
 use Rattle.resampling.specs.declared.resample.Resampler.{Resampler}
-use Rattle.calls.specs.Made.{accepted-only, refused-only}
+use Rattle.callparts.specs.Made.{accepted-only, refused-only}
 use Rattle.numeric.specs.Parts.{take-behind, drop-behind, part-next, part-left}
-use Rattle.calls.proofs.Parts.{next-two, rest-is, rest-put}
-use Rattle.calls.specs.Answers.{numberIn, countIn, told}
-use Rattle.calls.specs.declared.answers.Told.{Told}
+use Rattle.callparts.proofs.Parts.{next-two, rest-is, rest-put}
+use Rattle.callparts.specs.Answers.{numberIn, countIn, told}
+use Rattle.callparts.specs.declared.answers.Told.{Told}
 use Rattle.calls.specs.Resample.{Run, ran, after, processedFrom, lengthsFrom}
 use Rattle.calls.specs.Steps.{Within, Stepped, outcomeAt}
 use Rattle.calls.specs.declared.resample.Place.{Place}

@@ -1,4 +1,2 @@
 -- Laws that more than one proof of `calls` cites.
-pub mod Parts
 pub mod Calls
-pub mod ReceiverCalls

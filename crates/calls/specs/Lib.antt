@@ -1,8 +1,3 @@
--- What lists of calls give.
-pub mod Answers
-pub mod Made
+-- What lists of calls of the resampler give.
 pub mod Resample
 pub mod Steps
-pub mod Receive
-pub mod ReceiveSteps
-pub mod ReceiveLaws

@@ -6,7 +6,7 @@ use lib.Ieee.{Float}
 use Rattle.numeric.specs.F64.{if_then_else_}
 use Rattle.refusal.specs.Refusals.{ratesRefused}
 use Rattle.resampling.specs.Resample.{State, fresh, lenOf, processed}
-use Rattle.calls.specs.Answers.{countIn, told}
+use Rattle.callparts.specs.Answers.{countIn, told}
 
 -- what a list of calls leaves: how many were run, the lent output, and the lent answers
 pub record Run : Type 0 where

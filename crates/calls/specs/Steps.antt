@@ -6,7 +6,7 @@ use lib.ListN.{length, take, drop}
 use lib.Ieee.{Float}
 use Rattle.resampling.specs.Resample.{Outcome, processed}
 use Rattle.resampling.specs.ResampleHeld.{stateOf, Sound}
-use Rattle.calls.specs.Answers.{countIn, told}
+use Rattle.callparts.specs.Answers.{countIn, told}
 use Rattle.calls.specs.declared.resample.Place.{Place}
 
 -- a place within the input and the output, with a sound state

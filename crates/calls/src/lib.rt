@@ -1,5 +1,2 @@
-// Lists of calls from a fresh state: what hosts in C and runs against the Rust original are given.
-pub mod answers;
-pub mod ends;
-pub mod receive;
+// Lists of calls of the resampler from a fresh state: what hosts in C and runs against the Rust original are given.
 pub mod resample;

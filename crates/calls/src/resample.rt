@@ -1,8 +1,8 @@
 // Lists of calls of the resampler.
-use crate::answers::tell;
-use crate::answers::told_of;
-use crate::ends::part_end;
-use crate::ends::smaller;
+use callparts::answers::tell;
+use callparts::answers::told_of;
+use callparts::ends::part_end;
+use callparts::ends::smaller;
 use refusal::Acceptance;
 use resampling::resample::Resampler;
 ghost use mathlib.Core.Path.{_≡_};
@@ -11,7 +11,7 @@ ghost use Prim.Native.Nat.{_+_, _*_, _≤_};
 ghost use lib.ListN.{length, take, drop};
 ghost use Rattle.resampling.specs.Resample.{lenOf};
 ghost use Rattle.resampling.specs.ResampleHeld.{stateOf, Sound};
-ghost use Rattle.calls.specs.Answers.{told};
+ghost use Rattle.callparts.specs.Answers.{told};
 ghost use Rattle.calls.specs.Resample.{ran, processedFrom, resampleRun, lengthsFrom, lengthsRun};
 ghost use Rattle.calls.specs.Steps.{Within, Stepped};
 

@@ -1,8 +1,8 @@
 // The receiver, exported to C.
-use calls::receive::received_from_fresh;
+use receivecalls::receive::received_from_fresh;
 use states::state::state_from_fresh;
 ghost use mathlib.Core.Path.{_≡_};
-ghost use Rattle.calls.specs.Receive.{ran, receiveRun};
+ghost use Rattle.receivecalls.specs.Receive.{ran, receiveRun};
 ghost use Rattle.states.specs.ReceiverState.{shown, stateRun};
 
 #[no_mangle]

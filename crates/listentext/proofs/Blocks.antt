@@ -10,7 +10,7 @@ use lib.Dec.{eqb}
 use lib.ListN.{length}
 use lib.Ieee.{Float}
 use Rattle.numeric.specs.F64.{if_then_else_}
-use Rattle.tide.specs.Held.{mostCount}
+use Rattle.desk.specs.Held.{mostCount}
 use Rattle.board.specs.Plain as plain
 use Rattle.board.specs.Held.{plainOf, answerOf, BoardSound, Writes}
 use Rattle.board.specs.declared.board.Answer.{Answer}

@@ -12,7 +12,7 @@ use lib.Seq.{drop-cons, drop-length, length-take-le, take-suc-set, take-all}
 use lib.Ieee.{Float}
 use Rattle.numeric.specs.F64.{if_then_else_}
 use Rattle.bell103.specs.declared.Role.{Role}
-use Rattle.tide.specs.Held.{mostCount}
+use Rattle.desk.specs.Held.{mostCount}
 use Rattle.board.specs.Plain as plain
 use Rattle.wav.specs.Wav.{addByte}
 use Rattle.wav.specs.declared.wav.Wav.{Wav}

@@ -7,7 +7,7 @@ use lib.ListN.{length, take, drop}
 use lib.Ieee.{Float}
 use Rattle.numeric.specs.F64.{if_then_else_}
 use Rattle.bell103.specs.declared.Role.{Role}
-use Rattle.tide.specs.Held.{mostCount}
+use Rattle.desk.specs.Held.{mostCount}
 use Rattle.board.specs.Plain as plain
 use Rattle.board.specs.Held.{plainOf}
 use Rattle.wav.specs.Wav.{addByte}

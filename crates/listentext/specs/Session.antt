@@ -17,9 +17,9 @@ use Rattle.hearing.specs.Hear.{resampled}
 use Rattle.modem.specs.RxLaws.{Listens}
 use Rattle.modem.specs.RxHeld.{receiverOf}
 use Rattle.modem.specs.RxCalls.{sound-listens}
-use Rattle.tide.specs.Desk.{linesIn}
-use Rattle.tide.specs.DeskLaws.{lines-verdicts}
-use Rattle.tide.specs.Held.{deskOf, mostCount}
+use Rattle.desk.specs.Desk.{linesIn}
+use Rattle.desk.specs.DeskLaws.{lines-verdicts}
+use Rattle.desk.specs.Held.{deskOf, mostCount}
 use Rattle.board.specs.Plain as plain
 use Rattle.board.specs.Held.{plainOf, BoardSound}
 use Rattle.board.specs.declared.board.Board.{Board}

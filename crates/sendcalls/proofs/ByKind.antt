@@ -10,7 +10,7 @@ use lib.ListN.{length}
 use lib.Ieee.{Float, nan, inf, fin, binary32, ofBits, nanBits, isNan, div}
 use lib.Ieee.Bits.{nanBits-is, nanBits-above}
 use Rattle.refusal.specs.Refusals.{Reply, acceptanceOf, countOf}
-use Rattle.calls.specs.Answers.{numberIn, countIn}
+use Rattle.callparts.specs.Answers.{numberIn, countIn}
 use Rattle.sending.specs.Tx.{Sender, Adjusted, adjusted, amplitudeOf, Reading, reading, readOf, durationOf}
 use Rattle.sending.specs.TxHeld.{senderOf, TxSound}
 use Rattle.sending.specs.Queueing.{Queueing, queueing, writeOf, idleMarkOf}

@@ -14,8 +14,8 @@ use Rattle.refusal.specs.Refusals.{given, refused, rateRefused}
 use Rattle.bell103.specs.declared.Role.{Role}
 use Rattle.sending.specs.Tx.{Sender, pendingOf, freshSender, Made, made, newOf}
 use Rattle.sending.specs.TxHeld.{senderOf, TxSound}
-use Rattle.calls.specs.Made.{accepted-only, refused-only}
-use Rattle.calls.specs.Receive.{bit}
+use Rattle.callparts.specs.Made.{accepted-only, refused-only}
+use Rattle.callparts.specs.Answers.{bit}
 use Rattle.calls.specs.Resample.{Run, ran, after}
 use Rattle.calls.proofs.Calls.{after-after, after-start}
 use Rattle.sendcalls.specs.Send.{Outcome, called, bytesFor, placesFor, told, sentFrom}

@@ -8,8 +8,8 @@ use Rattle.numeric.specs.F64.{if_then_else_}
 use Rattle.refusal.specs.Refusals.{Reply, given, refused, rateRefused}
 use Rattle.sending.specs.Tx.{Sender, Reading, readOf, Adjusted, amplitudeOf, pendingOf, durationOf, freshSender}
 use Rattle.sending.specs.Queueing.{Queueing, writeOf, idleMarkOf}
-use Rattle.calls.specs.Answers.{numberIn, countIn}
-use Rattle.calls.specs.Receive.{bit, roleOf}
+use Rattle.callparts.specs.Answers.{numberIn, countIn, bit}
+use Rattle.callparts.specs.Roles.{roleOf}
 use Rattle.calls.specs.Resample.{Run, ran, after}
 
 -- ---- one call

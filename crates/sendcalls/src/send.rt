@@ -1,9 +1,9 @@
 // Lists of calls of the sender.
-use calls::answers::number_in;
-use calls::answers::one_if;
-use calls::answers::told_of;
-use calls::ends::smaller;
-use calls::receive::role_of;
+use callparts::answers::number_in;
+use callparts::answers::one_if;
+use callparts::answers::told_of;
+use callparts::ends::smaller;
+use callparts::roles::role_of;
 use refusal::Acceptance;
 use sending::queueing::Queueing;
 use sending::tx::Adjusted;
@@ -15,7 +15,7 @@ ghost use Prim.Native.Nat.{_+_, _≤_};
 ghost use lib.ListN.{length, take, drop};
 ghost use Rattle.refusal.specs.Refusals.{acceptanceOf};
 ghost use Rattle.sending.specs.TxHeld.{senderOf, TxSound};
-ghost use Rattle.calls.specs.Answers.{numberIn};
+ghost use Rattle.callparts.specs.Answers.{numberIn};
 ghost use Rattle.calls.specs.Resample.{ran};
 ghost use Rattle.sendcalls.specs.Send.{unlessRefused, amplitudeIn, called, bytesFor, placesFor, callsFor, sentFrom, sendRun};
 ghost use Rattle.sendcalls.specs.SendSteps.{outcomeOf, Within, Stepped};

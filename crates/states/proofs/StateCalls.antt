@@ -21,15 +21,14 @@ use Rattle.modem.specs.RxHeld.{receiverOf, RxSound}
 use Rattle.demodulation.specs.declared.demod.Demodulator.{Demodulator}
 use Rattle.resampling.specs.declared.resample.Resampler.{Resampler}
 use Rattle.modem.specs.declared.rx.Rx.{Rx}
-use Rattle.numeric.specs.Parts.{part-next, part-left}
-use Rattle.numeric.specs.Parts.{put-front, put-behind}
-use Rattle.calls.specs.ReceiveLaws.{callIn}
-use Rattle.calls.specs.Receive.{called}
-use Rattle.calls.specs.ReceiveSteps.{Calls}
+use Rattle.numeric.specs.Parts.{part-next, part-left, put-front, put-behind}
+use Rattle.receivecalls.specs.ReceiveLaws.{callIn}
+use Rattle.receivecalls.specs.Receive.{called}
+use Rattle.receivecalls.specs.ReceiveSteps.{Calls}
 use Rattle.states.specs.ReceiverState.{filterPlaces, windowNumbers, placeNumbers, toneNumbers, markNumbers, ownNumbers, lastNumbers, resamplerNumbers, ringNumbers, stateNumbers, stateLength, receiverAfter}
 use Rattle.states.specs.StateSteps.{Put, PutMany, Moves}
-use Rattle.calls.specs.declared.answers.Heard.{Heard}
-use Rattle.calls.specs.declared.receive.Call.{Call}
+use Rattle.callparts.specs.declared.answers.Heard.{Heard}
+use Rattle.receivecalls.specs.declared.receive.Call.{Call}
 use Rattle.states.specs.declared.state.Spot.{Spot}
 
 -- ---- the first n of an array, and 0.0 behind them

@@ -14,7 +14,8 @@ use Rattle.detection.specs.declared.carrier.ToneDominance.{ToneDominance}
 use Rattle.demodulation.specs.declared.demod.Core.{Core}
 use Rattle.demodulation.specs.declared.demod.Demodulator.{Demodulator}
 use Rattle.bell103.specs.declared.nco.Goertzel.{Goertzel}
-use Rattle.calls.specs.Receive.{called, toWrite, toRead, toTake, callsIn, roleOf}
+use Rattle.receivecalls.specs.Receive.{called, toWrite, toRead, toTake, callsIn}
+use Rattle.callparts.specs.Roles.{roleOf}
 
 -- yes as 1.0 and no as 0.0
 abbrev pub truth : Bool → Float

@@ -6,8 +6,8 @@ use lib.ListN.{length, take, drop}
 use lib.Ieee.{Float}
 use Rattle.queues.specs.Queue.{mostBytes, mostEvents}
 use Rattle.modem.specs.RxHeld.{receiverOf, RxSound}
-use Rattle.calls.specs.Receive.{called}
-use Rattle.calls.specs.declared.receive.Call.{Call}
+use Rattle.receivecalls.specs.Receive.{called}
+use Rattle.receivecalls.specs.declared.receive.Call.{Call}
 use Rattle.states.specs.declared.state.Spot.{Spot}
 
 -- xs stands behind the first `at` of a list; all else is as it was

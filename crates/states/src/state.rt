@@ -1,9 +1,9 @@
 // The receiver's state as a list of f64, exported to C.
-use calls::ends::part_end;
-use calls::receive::Call;
-use calls::receive::make_call;
-use calls::receive::role_of;
+use callparts::ends::part_end;
+use callparts::roles::role_of;
 use modem::rx::Rx;
+use receivecalls::receive::Call;
+use receivecalls::receive::make_call;
 use refusal::Acceptance;
 ghost use mathlib.Core.Path.{_≡_};
 ghost use mathlib.Core.List.{_++_};
@@ -12,7 +12,7 @@ ghost use lib.ListN.{length, take, drop, replicate};
 ghost use Rattle.numeric.specs.F64.{zero64};
 ghost use Rattle.filtering.specs.FilterHeld.{ringBack, historyOf};
 ghost use Rattle.modem.specs.RxHeld.{receiverOf, RxSound};
-ghost use Rattle.calls.specs.Receive.{callsIn};
+ghost use Rattle.receivecalls.specs.Receive.{callsIn};
 ghost use Rattle.states.specs.ReceiverState.{truth, windowNumbers, placeNumbers, toneNumbers, markNumbers, ownNumbers, blockNumber, lastNumbers, resamplerNumbers, ringNumbers, stateNumbers, stateLength, receiverAfter, shown, stateRun};
 ghost use Rattle.states.specs.StateSteps.{Put, PutMany, Standing, Moves};
 

@@ -2,11 +2,8 @@
 pub mod Hex
 pub mod Frame
 pub mod Judge
-pub mod Desk
 pub mod Held
 pub mod HexLaws
 pub mod FrameLaws
 pub mod JudgeLaws
-pub mod DeskLaws
-pub mod HeldLaws
 pub mod Examples

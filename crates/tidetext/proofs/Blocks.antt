@@ -11,10 +11,10 @@ use native.Mathlib.Nat.{min-eq-left, min-eq-right}
 use native.Mathlib.Numerals.{add-one}
 use native.Mathlib.Omega.{arith}
 use Rattle.numeric.specs.F64.{if_then_else_}
-use Rattle.tide.specs.Desk as plain
-use Rattle.tide.specs.Held.{deskOf, mostCount, holding, Sound, Stepped}
-use Rattle.tide.specs.HeldLaws.{min-by, holding-bytes, holding-lines, unheld}
-use Rattle.tide.specs.declared.desk.Step.{Step}
+use Rattle.desk.specs.Desk as plain
+use Rattle.desk.specs.Held.{deskOf, mostCount, holding, Sound, Stepped}
+use Rattle.desk.specs.HeldLaws.{min-by, holding-bytes, holding-lines, unheld}
+use Rattle.desk.specs.declared.desk.Step.{Step}
 use Rattle.tidetext.specs.Text.{Taken, Read}
 use Rattle.tidetext.specs.declared.Text.{Text}
 

@@ -6,8 +6,8 @@ use mathlib.Core.List.{List}
 use lib.Dec.{eqb}
 use lib.ListN.{length}
 use Rattle.numeric.specs.F64.{if_then_else_}
-use Rattle.tide.specs.Desk.{addByte, addBytes, linesIn}
-use Rattle.tide.specs.Held.{deskOf, mostCount, holding, Sound}
+use Rattle.desk.specs.Desk.{addByte, addBytes, linesIn}
+use Rattle.desk.specs.Held.{deskOf, mostCount, holding, Sound}
 use Rattle.tidetext.specs.declared.Text.{Text}
 
 -- one byte

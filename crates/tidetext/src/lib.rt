@@ -1,10 +1,10 @@
 // Tide lines as text: each line of standard input is judged for a station, and its number and answer are printed; then the reading.
-use tide::Desk;
+use desk::Desk;
 use tide::Reading;
 ghost use mathlib.Core.Path.{_≡_};
 ghost use Prim.Native.Nat.{_+_, min};
 ghost use lib.IntN.{natAbs};
-ghost use Rattle.tide.specs.Held.{mostCount, Sound};
+ghost use Rattle.desk.specs.Held.{mostCount, Sound};
 ghost use Rattle.tidetext.specs.Text.{Taken, Read};
 
 // The desk, and how many lines it has judged. The count holds at the most that it can say.

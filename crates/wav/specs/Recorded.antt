@@ -10,8 +10,9 @@ use lib.Dec.{ltb, leb, eqb}
 use lib.ListN.{length, length-append}
 use Rattle.numeric.specs.F64.{if_then_else_}
 use Rattle.refusal.specs.Refusals.{rateRefused}
-use Rattle.wav.specs.Sample.{pcmOf, floatOf, sampleOf}
-use Rattle.wav.specs.Wav.{riff, wave, fmt, data', shifted, widthOf, isEndless, freshWav, rawWav, moved, step, going, fixed, skip, padded, named, formatSize, settle, settled, shaped, shapeWord, start, dataSize, nextFrame, overOthers, sampled, frameOver, done, addByte, finishFrame, finishOf}
+use Rattle.wavparts.specs.Sample.{pcmOf, floatOf, sampleOf}
+use Rattle.wav.specs.Wav.{riff, wave, fmt, data', freshWav, rawWav, moved, step, going, fixed, skip, padded, named, formatSize, settle, settled, shaped, shapeWord, start, dataSize, nextFrame, overOthers, sampled, frameOver, done, addByte, finishFrame, finishOf}
+use Rattle.wavparts.specs.Words.{shifted, widthOf, isEndless}
 use Rattle.wav.specs.Recording.{two, four, Kind, pcm16, float32, tagOf, bytesIn, written, valueOf, Frame, frameBytes, Frames, Chunk, pad, chunkBytes, Others, Recording, alignOf, opening, formatChunk, dataHead, header, Proper, Tells, told, outs, after, samples}
 use Rattle.wav.specs.declared.wav.Wav as state
 use Rattle.wav.specs.declared.wav.Step.{Step}

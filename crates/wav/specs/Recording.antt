@@ -8,7 +8,7 @@ use lib.ListN.{length}
 use Rattle.numeric.specs.F64.{if_then_else_}
 use lib.Ieee.{Float}
 use Rattle.refusal.specs.Refusals.{rateRefused}
-use Rattle.wav.specs.Sample.{pcmOf, floatOf}
+use Rattle.wavparts.specs.Sample.{pcmOf, floatOf}
 use Rattle.wav.specs.Wav.{fmt, data', addByte, finishOf}
 use Rattle.wav.specs.declared.wav.Wav.{Wav}
 use Rattle.wav.specs.declared.wav.Out.{Out}

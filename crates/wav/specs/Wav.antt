@@ -2,12 +2,13 @@
 -- bytes, with one more behind an odd number. The chunk "fmt " gives the encoding, the chunk "data" the frames, each one sample for each
 -- channel. Numbers have their low byte first; a name is read as a number of four bytes too. Assumes nothing.
 use Prim.Native.Nat.{ℕ, _+_, _-_, _*_, _/_, _%_}
-use mathlib.Core.Bool.{Bool, true, false, _||_, _&&_}
+use mathlib.Core.Bool.{Bool, true, false, _&&_}
 use mathlib.Core.List.{List, [], _∷_, _++_}
-use lib.Dec.{ltb, leb, eqb}
+use lib.Dec.{ltb, eqb}
 use Rattle.numeric.specs.F64.{if_then_else_}
 use Rattle.refusal.specs.Refusals.{rateRefused}
-use Rattle.wav.specs.Sample.{sampleOf}
+use Rattle.wavparts.specs.Sample.{sampleOf}
+use Rattle.wavparts.specs.Words.{shifted, widthOf, isEndless}
 use Rattle.wav.specs.declared.wav.Wav.{Wav}
 use Rattle.wav.specs.declared.wav.Step.{Step}
 use Rattle.wav.specs.declared.wav.Fault.{Fault}
@@ -37,21 +38,9 @@ abbrev pub data' : ℕ
 data' = 0x6174_6164
 
 -- ---- small things
--- the last four bytes as a number, once one byte more is in
-abbrev pub shifted : ℕ → ℕ → ℕ
-shifted word b = word / 256 + b * 0x100_0000
-
 -- a chunk's size with the byte behind an odd number
 abbrev pub padded : ℕ → ℕ
 padded size = size + size % 2
-
--- the bytes of a sample, "PCM 16 bit or 32-bit float": format 1 is PCM, 3 is IEEE float; 0 for what is not read
-unfoldable pub widthOf : ℕ → ℕ → ℕ
-widthOf tag bits = if eqb tag 1 then (if eqb bits 16 then 2 else 0) else (if eqb tag 3 then (if eqb bits 32 then 4 else 0) else 0)
-
--- data that run to the end of the file: a recorder that can't know their size says 0, or something near 2 or 4 GB
-unfoldable pub isEndless : ℕ → Bool
-isEndless size = eqb size 0 || leb 0x7FFF_F000 size
 
 -- ---- the reader's states
 -- before the first byte

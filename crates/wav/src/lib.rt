@@ -1,10 +1,8 @@
 // WAV recordings, read byte by byte: the rate, then the samples of the first channel.
 //
 //   wav       the reader                                   specs/Wav.antt
-//   sample    samples from their bytes                     specs/Sample.antt
 //
 // What a reader makes of a whole recording: specs/Recording.antt.
-mod sample;
 mod wav;
 
 pub use wav::End;

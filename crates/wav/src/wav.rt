@@ -1,8 +1,11 @@
 // The reader. A recording is a row of chunks, each with a name and a size; its header is read in words of four bytes, low byte first.
-use crate::sample::sample;
 use refusal::rate_ok;
+use wavparts::sample::sample;
+use wavparts::words::endless;
+use wavparts::words::shifted_in;
+use wavparts::words::width_of;
 ghost use mathlib.Core.Path.{_≡_};
-ghost use Rattle.wav.specs.Wav.{shifted, widthOf, isEndless, freshWav, rawWav, moved, going, bad, fixed, skip, padded, named, formatSize, formatWord, rateWord, shapeWord, settle, dataSize, start, sampled, overOthers, nextFrame, frameOver, done, addByte, finishFrame, finishOf};
+ghost use Rattle.wav.specs.Wav.{freshWav, rawWav, moved, going, bad, fixed, skip, padded, named, formatSize, formatWord, rateWord, shapeWord, settle, dataSize, start, sampled, overOthers, nextFrame, frameOver, done, addByte, finishFrame, finishOf};
 
 // Why a recording is not read, or not to its end.
 pub enum Fault {
@@ -102,42 +105,6 @@ const WAVE: u32 = 0x4556_4157;
 const FMT: u32 = 0x2074_6D66;
 
 const DATA: u32 = 0x6174_6164;
-
-// The word with one byte more on top.
-fn shifted_in(word: u32, b: u8) -> u32
-    ensures { λ r. ⌜ r ≡ shifted word b ⌝ }
-{
-    word / 256 + (b as u32) * 0x100_0000
-}
-
-// Bytes of a sample: PCM (1) has 16 bits, IEEE float (3) has 32; 0 for any other.
-fn width_of(tag: u32, bits: u32) -> u32
-    ensures { λ r. ⌜ r ≡ widthOf tag bits ⌝ }
-{
-    if tag == 1 {
-        if bits == 16 {
-            return 2;
-        }
-        return 0;
-    }
-    if tag == 3 {
-        if bits == 32 {
-            return 4;
-        }
-        return 0;
-    }
-    0
-}
-
-// Whether the data run to the end of the file: recorders that can't know the size say 0, or something near 2 or 4 GB.
-fn endless(size: u32) -> bool
-    ensures { λ r. ⌜ r ≡ isEndless size ⌝ }
-{
-    if size == 0 {
-        return true;
-    }
-    0x7FFF_F000 <= size
-}
 
 impl Wav {
     // Before the first byte of a recording.

@@ -2,7 +2,7 @@
 use Prim.Native.Nat.{_≤_, _-_}
 use lib.ListN.{length}
 use native.Mathlib.Omega.{arith}
-use Rattle.tide.specs.Held.{mostCount}
+use Rattle.desk.specs.Held.{mostCount}
 use Rattle.tidetext.proofs.Blocks.{Going, going-start, going-on, going-end}
 use borrow.Author.Needs.{needs}
 use Rattle.tidetext.proofs.after_block.Statement.{statement}

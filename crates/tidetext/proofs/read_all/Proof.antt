@@ -1,5 +1,5 @@
 -- The measure is the number of turns that are left. Assumes nothing.
-use Rattle.tide.specs.Held.{Sound}
+use Rattle.desk.specs.Held.{Sound}
 use borrow.Author.Needs.{needs}
 use Rattle.tidetext.proofs.read_all.Statement.{statement}
 use Rattle.tidetext.proofs.read_all.Tie as tie

@@ -1,7 +1,7 @@
 -- What the board and `tell` ensure. Assumes nothing.
 use Prim.Native.Nat.{_≤_}
 use native.Mathlib.Omega.{arith}
-use Rattle.tide.specs.Held.{mostCount}
+use Rattle.desk.specs.Held.{mostCount}
 use Rattle.listentext.proofs.Blocks.{wrote}
 use borrow.Author.Needs.{needs}
 use Rattle.listentext.proofs.session.write_block.Statement.{statement}

@@ -1,7 +1,7 @@
 use Prim.Native.Nat.{ℕ, min, _+_, _-_}
 use mathlib.Core.Path.{_∙_, ap}
 use lib.ListN.{length}
-use Rattle.calls.specs.Receive.{bit}
+use Rattle.callparts.specs.Answers.{bit}
 use Rattle.sendcalls.proofs.Steps.{call-steps, call-within}
 use borrow.Author.Needs.{needs}
 use Rattle.sendcalls.proofs.send.one_call.Statement.{statement}

@@ -1,6 +1,6 @@
 -- `state::state_from_fresh` meets its contract: the length and what `new` ensures say which of the cases holds. Assumes nothing.
 use borrow.Author.Tests.{lt-ltb, le-ltb}
-use Rattle.calls.specs.ReceiveLaws.{rate-accepted, rate-refused}
+use Rattle.receivecalls.specs.ReceiveLaws.{rate-accepted, rate-refused}
 use Rattle.states.specs.ReceiverState.{stateRun}
 use borrow.Author.Needs.{needs}
 use Rattle.states.proofs.state.state_from_fresh.Statement.{statement}

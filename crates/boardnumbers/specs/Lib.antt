@@ -1,0 +1,2 @@
+-- What a board shows, as numbers.
+pub mod Shown

@@ -1,0 +1,2 @@
+-- Laws that the proofs of `boardparts` cite.
+pub mod Parts

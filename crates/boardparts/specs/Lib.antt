@@ -1,0 +1,2 @@
+-- The definitions that the contracts of `boardparts` cite.
+pub mod Station

@@ -1,0 +1,31 @@
+-- Behind the last count there is none. Assumes nothing.
+use mathlib.Core.Path.{refl, sym}
+use native.Mathlib.Omega.{arith}
+use Rattle.desk.proofs.Stores.{getD-out}
+use borrow.Author.Needs.{needs}
+use Rattle.desk.proofs.desk.Desk.count.Statement.{statement}
+use Rattle.desk.proofs.desk.Desk.count.Tie as tie
+use Rattle.desk.proofs.desk.Desk.count.Reads as reads
+use Rattle.desk.proofs.desk.Desk.count.Lts as lts
+use Rattle.desk.proofs.desk.place_of.Reads as place-of-reads
+
+place-of-requires : tie.Need-place-of-requires
+place-of-requires c κs = search needs
+
+mul-result : tie.Need-mul-result
+mul-result c = search needs
+
+array-read-result : tie.Need-array-read-result
+array-read-result c = search needs
+
+returns : tie.Need-returns
+returns c =
+    rw (c .before .before .place-of .ensures) refl
+
+returns-2 : tie.Need-returns-2
+returns-2 c =
+    let b = c .before .before .before in
+    sym (getD-out (b .args .self .counts) _ (omega (arith, c .if1 .left, c .before .before .place-of .ensures, b .pre .places)))
+
+pub count-spec : {M : Type 1} → statement M
+count-spec = tie.close (tie.spec place-of-requires mul-result array-read-result returns returns-2)

@@ -1,0 +1,244 @@
+// The desk: the unended line, the reading and the counts, and what bytes do to them.
+use tide::Reading;
+use tide::judge::judge_line;
+ghost use mathlib.Core.Path.{_≡_};
+ghost use Prim.Native.Nat.{_+_, _<_, min};
+ghost use lib.ListN.{length};
+ghost use Rattle.desk.specs.Desk.{IsAnswer, place, countOf, bump, longer};
+ghost use Rattle.tide.specs.Held.{shownOf};
+ghost use Rattle.desk.specs.Held.{lineOf, deskOf, mostCount, held, SoundLine, Sound, Made, Stepped, Byted, Feeds};
+
+// A line: its first 64 characters, and whether there were more.
+pub struct Line {
+    pub chars: [u8; 64],
+    pub len: usize,
+    pub more: bool,
+}
+
+// What bytes change: the station's unended line, its reading, and its counts.
+pub struct Desk {
+    pub station: u16,
+    pub line: Line,
+    pub reading: Reading,
+    // One for each line answer: 0, 11 to 20, 34.
+    pub counts: [u64; 12],
+}
+
+// What a byte did: whether it ended a line, and that line's answer.
+pub struct Step {
+    pub desk: Desk,
+    pub ended: bool,
+    pub answer: u8,
+}
+
+// What bytes did: how many lines they ended, and the last one's answer.
+pub struct Fed {
+    pub desk: Desk,
+    pub lines: u64,
+    pub last: u8,
+}
+
+// Where a count holds.
+const MOST_COUNT: u64 = 18446744073709551615;
+
+// Which count an answer has; 12 for a number that is no answer.
+fn place_of(a: u8) -> usize
+    ensures { λ r. ⌜ r ≡ place a ⌝ }
+{
+    if a == 0 {
+        return 0;
+    }
+    if a == 34 {
+        return 11;
+    }
+    if a < 11 {
+        return 12;
+    }
+    if a <= 20 {
+        return (a as usize) - 10;
+    }
+    12
+}
+
+fn one_more(n: u64) -> u64
+    ensures { λ r. ⌜ r ≡ min (n + 1) mostCount ⌝ }
+{
+    if n < MOST_COUNT {
+        return n + 1;
+    }
+    MOST_COUNT
+}
+
+// The counts with one more at an answer.
+fn counted(cs: [u64; 12], a: u8) -> [u64; 12]
+    requires { ⌜ IsAnswer a × (length cs ≡ 12) × (held cs ≡ cs) ⌝ }
+    ensures { λ r. ⌜ r ≡ held (bump cs a) ⌝ }
+{
+    let k = place_of(a);
+    let mut r = cs;
+    r[k] = one_more(r[k]);
+    r
+}
+
+fn longer_line(l: Line, c: u8) -> Line
+    requires { ⌜ SoundLine l ⌝ }
+    ensures { λ r. ⌜ (lineOf r ≡ longer (lineOf l) c) × SoundLine r ⌝ }
+{
+    let n = l.len;
+    let mut s = l.chars;
+    if n < 64 {
+        s[n] = c;
+        return Line {
+            chars: s,
+            len: n + 1,
+            more: l.more,
+        };
+    }
+    Line {
+        chars: s,
+        len: n,
+        more: true,
+    }
+}
+
+impl Desk {
+    // A fresh desk for a station.
+    pub fn new(station: u16) -> Desk
+        ensures { λ r. ⌜ Made station r ⌝ }
+    {
+        let line = Line {
+            chars: [0; 64],
+            len: 0,
+            more: false,
+        };
+        Desk {
+            station: station,
+            line: line,
+            reading: Reading::None,
+            counts: [0; 12],
+        }
+    }
+
+    // The line is judged, counted and emptied.
+    fn end_line(self) -> Step
+        requires { ⌜ Sound self ⌝ }
+        ensures { λ r. ⌜ Stepped self 10 r ⌝ }
+    {
+        let l = self.line;
+        let ch = l.chars;
+        let n = l.len;
+        let rd = self.reading;
+        let j = judge_line(&ch[..n], l.more, self.station as u32, rd);
+        let cs = self.counts;
+        let nr = j.reading;
+        let nc = counted(cs, j.answer);
+        let nl = Line {
+            chars: ch,
+            len: 0,
+            more: false,
+        };
+        let nd = Desk {
+            station: self.station,
+            line: nl,
+            reading: nr,
+            counts: nc,
+        };
+        Step {
+            desk: nd,
+            ended: true,
+            answer: j.answer,
+        }
+    }
+
+    // The line is one character longer.
+    fn grow(self, c: u8) -> Step
+        requires { ⌜ Sound self × (c ≡ 10 → ⊥) ⌝ }
+        ensures { λ r. ⌜ Stepped self c r ⌝ }
+    {
+        let l = self.line;
+        let rd = self.reading;
+        let cs = self.counts;
+        let longer = longer_line(l, c);
+        let nd = Desk {
+            station: self.station,
+            line: longer,
+            reading: rd,
+            counts: cs,
+        };
+        Step {
+            desk: nd,
+            ended: false,
+            answer: 0,
+        }
+    }
+
+    // Takes one byte: 0A ends the line.
+    pub fn add_byte(self, c: u8) -> Step
+        requires { ⌜ Sound self ⌝ }
+        ensures { λ r. ⌜ Stepped self c r ⌝ }
+    {
+        if c == 10 {
+            return self.end_line();
+        }
+        self.grow(c)
+    }
+
+    // Takes bytes, in order.
+    pub fn feed(self, s: &[u8]) -> Fed
+        requires { ⌜ Sound self ⌝ }
+        ensures { λ r. ⌜ Feeds self (now (s .entry)) r ⌝ }
+    {
+        let mut f = Fed {
+            desk: self,
+            lines: 0,
+            last: 0,
+        };
+        let mut i = 0;
+        while i < s.len() {
+            f = feed_byte(f, s[i]);
+            i += 1;
+        }
+        f
+    }
+
+    // What the desk shows.
+    pub fn reading(self) -> Reading
+        ensures { λ r. ⌜ shownOf r ≡ deskOf self .reading ⌝ }
+    {
+        self.reading
+    }
+
+    // How often an answer was given; 0 for a number that is no answer.
+    pub fn count(self, answer: u8) -> u64
+        requires { ⌜ Sound self ⌝ }
+        ensures { λ r. ⌜ r ≡ countOf (deskOf self) answer ⌝ }
+    {
+        let k = place_of(answer);
+        let cs = self.counts;
+        if k < 12 {
+            return cs[k];
+        }
+        0
+    }
+}
+
+// A byte more of several: the desk, the lines ended so far and the last one's answer.
+fn feed_byte(f: Fed, c: u8) -> Fed
+    requires { ⌜ Sound (f .desk) × (f .lines < mostCount) ⌝ }
+    ensures { λ r. ⌜ Byted f c r ⌝ }
+{
+    let t = f.desk.add_byte(c);
+    let d = t.desk;
+    if t.ended {
+        return Fed {
+            desk: d,
+            lines: f.lines + 1,
+            last: t.answer,
+        };
+    }
+    Fed {
+        desk: d,
+        lines: f.lines,
+        last: f.last,
+    }
+}

@@ -1,0 +1,2 @@
+-- Laws that more than one proof of `receivecalls` cites.
+pub mod ReceiverCalls

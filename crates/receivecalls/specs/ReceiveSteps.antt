@@ -1,0 +1,52 @@
+-- One call of the receiver between two places of a list of calls, as the code holds them. Assumes nothing.
+use Prim.Native.Nat.{ℕ, min, _+_, _≤_}
+use mathlib.Core.Path.{_≡_}
+use mathlib.Core.Bool.{Bool}
+use mathlib.Core.List.{List, [], _∷_, _++_, map}
+use lib.ListN.{length, take, drop}
+use lib.Ieee.{Float}
+use Rattle.modem.specs.RxHeld.{receiverOf, RxSound}
+use Rattle.queues.specs.Queue.{noted, EventsWait}
+use Rattle.queues.specs.declared.queue.Events.{Events}
+use Rattle.modem.specs.declared.rx.Rx.{Rx}
+use Rattle.receivecalls.specs.Receive.{Called, called, toldCall}
+use Rattle.callparts.specs.Answers.{bit, heardOf}
+use Rattle.callparts.specs.declared.answers.Heard.{Heard}
+use Rattle.receivecalls.specs.declared.receive.Call.{Call}
+use Rattle.receivecalls.specs.declared.receive.Place.{Place}
+
+-- events taken off a queue into a whole buffer: how many, the buffer, and the queue afterwards
+pub record Takes (q : Events) (buf : List ℕ) (n : ℕ) (q′ : Events) (buf′ : List ℕ) : Type 0 where
+  pub count : n ≡ length (take (length buf) (noted q))
+  pub buffer : buf′ ≡ map bit (take (length buf) (noted q)) ++ drop n buf
+  pub rest : EventsWait q′ (drop (length buf) (noted q))
+
+-- a call c of the definitions was run: its answer, the receiver afterwards, and two buffers, with all that they have room for
+pub record Calls (c : Called) (bs es : List ℕ) (h : Heard) (s : Rx) (bs′ es′ : List ℕ) : Type 0 where
+  pub told : heardOf h ≡ toldCall c
+  pub state : receiverOf s ≡ c .state
+  pub bytes : bs′ ≡ c .bytes ++ drop (length (c .bytes)) bs
+  pub events : es′ ≡ map bit (c .events) ++ drop (length (c .events)) es
+  pub sound : RxSound s
+
+-- a place within the samples, the bytes and the events, with a sound state
+pub record Within (p : Place) (xs : List Float) (bs es : List ℕ) : Type 0 where
+  pub sound : RxSound (p .state)
+  pub read : p .read ≤ length xs
+  pub bytes : p .bytes ≤ length bs
+  pub events : p .events ≤ length es
+
+-- what the call at p gives
+abbrev pub callAt : Place → Call → List Float → List ℕ → List ℕ → Called
+callAt p k xs bs es =
+    called (receiverOf (p .state)) (take (k .samples) (drop (p .read) xs)) (min (k .bytes) (length (drop (p .bytes) bs))) (min (k .events) (length (drop (p .events) es)))
+
+-- a call leads from p to q, and from bs and es to bs′ and es′, and to ans′, where the answers were before, five numbers, and behind
+pub record Stepped (p q : Place) (k : Call) (xs : List Float) (bs bs′ es es′ before behind ans′ : List ℕ) : Type 0 where
+  pub state : receiverOf (q .state) ≡ callAt p k xs bs es .state
+  pub left : drop (q .read) xs ≡ drop (k .samples) (drop (p .read) xs)
+  pub bytes-at : q .bytes ≡ p .bytes + length (callAt p k xs bs es .bytes)
+  pub events-at : q .events ≡ p .events + length (callAt p k xs bs es .events)
+  pub bytes : bs′ ≡ take (p .bytes) bs ++ (callAt p k xs bs es .bytes ++ drop (length (callAt p k xs bs es .bytes)) (drop (p .bytes) bs))
+  pub events : es′ ≡ take (p .events) es ++ (map bit (callAt p k xs bs es .events) ++ drop (length (callAt p k xs bs es .events)) (drop (p .events) es))
+  pub answers : ans′ ≡ before ++ (toldCall (callAt p k xs bs es) ++ behind)
