@@ -10,15 +10,15 @@ use lib.Dec.{T, isLe, isEq, ltb, leb, eqb, ltb→lt, leb→le, eqb→eq, nltb→
 use lib.Arith.{le→nltb}
 use lib.Pow.{pow-add, pow-pos, pow-mono, pow-lt, shl-lt, shr-lt}
 use lib.IntN.{ℤ, pos, negsuc}
-use lib.Ieee.{Float, nan, inf, fin, Format, binary32, binary64, prec, emax, low, hid, top, up, down, size, nearest, odd, units, round, neg, fits, toBits, ofBits, nanBits, isNan, div}
+use lib.Ieee.{Float, nan, inf, fin, Format, binary32, binary64, prec, emax, low, hid, top, up, down, size, nearest, odd, units, round, neg, fits, toBits, ofFields, ofBits, nanBits, isNan, div}
 use lib.Ieee.Digits.{size-lt, size-le, size-reaches}
 use lib.Ieee.Fits.{round-is, round-fits, nearest-le, kept-lt, up-pos, down-pos, and-l, and-r, neg-fits}
 use lib.Ieee.Exact.{HasValue, units-val}
 use lib.Ieee.Nearest.{closest, closest-same, nearest-ge}
 use lib.Ieee.Scale.{round-same}
-use lib.Ieee.Bits.{ofBits-toBits, cond-no}
+use lib.Ieee.Bits.{ofBits-toBits, toBits-lt, nanBits-above, cond-no}
 use Rattle.numeric.specs.Convert.{narrowed}
-use Rattle.numeric.proofs.Bits.{number-bits, bits-lt}
+use Rattle.numeric.proofs.Bits.{bits-lt}
 use Rattle.numeric.specs.Patterns.{digits, narrowBits}
 
 -- ---- what `compare` says
@@ -519,7 +519,7 @@ unsign a b h = omega arith
 no-sign : (a b : ℕ) → a ≡ 2 ^ 63 + b → a < 2 ^ 63 → ⊥
 no-sign a b e h = omega arith
 
-pub plus-law : (x : Float) → T (fits binary64 x) → T (not (isNan x)) → toBits binary64 x < 2 ^ 63 → ofBits binary32 (narrowBits (toBits binary64 x)) ≡ narrowed x
+plus-law : (x : Float) → T (fits binary64 x) → T (not (isNan x)) → toBits binary64 x < 2 ^ 63 → ofBits binary32 (narrowBits (toBits binary64 x)) ≡ narrowed x
 unfolding narrowed isNan
 plus-law nan h n l = absurd n
 plus-law (inf true) h n l = unfold toBits in absurd (lt-irrefl (2 ^ 63) (lt-of-le-of-lt (lit≤ tt) l))
@@ -527,7 +527,7 @@ plus-law (inf false) h n l = unfold toBits ofBits narrowBits in refl
 plus-law (fin true m e) h n l = absurd (no-sign (toBits binary64 (fin true m e)) (toBits binary64 (fin false m e)) (bits-sign m e) l)
 plus-law (fin false m e) h n l = on-finite m e h
 
-pub minus-law : (x : Float) → T (fits binary64 x) → T (not (isNan x)) → 2 ^ 63 ≤ toBits binary64 x → neg (ofBits binary32 (narrowBits (toBits binary64 x - 2 ^ 63))) ≡ narrowed x
+minus-law : (x : Float) → T (fits binary64 x) → T (not (isNan x)) → 2 ^ 63 ≤ toBits binary64 x → neg (ofBits binary32 (narrowBits (toBits binary64 x - 2 ^ 63))) ≡ narrowed x
 unfolding narrowed isNan neg
 minus-law nan h n l = absurd n
 minus-law (inf true) h n l = unfold toBits ofBits narrowBits in refl
@@ -550,8 +550,59 @@ narrowBits-le b = cap (digits b)
     cap : (x : ℕ) → min x 0x7F80_0000 ≤ 0x7F80_0000
     cap x = omega arith
 
-pub narrow-number : (b : ℕ) → T (not (nanBits binary32 (narrowBits b)))
-narrow-number b = number-bits binary32 (narrowBits b) (narrowBits-le b)
+-- the sign in front of such a pattern
+pub signed-number : (s b : ℕ) → T (not (nanBits binary32 (s * 0x8000_0000 + narrowBits b)))
+signed-number s b =
+    let h = narrowBits-le b in
+    let e : (s * 0x8000_0000 + narrowBits b) % 0x8000_0000 ≡ narrowBits b = omega arith in
+    rw (nanBits-above binary32 (s * 0x8000_0000 + narrowBits b), e) (le→nltb 0x7F80_0000 (narrowBits b) h)
+
+-- the sign is one digit
+pub signed-below : (x : Float) (k : ℕ) → T (fits binary64 x) → k ≡ narrowBits (toBits binary64 x % 2 ^ 63) → toBits binary64 x / 2 ^ 63 * 0x8000_0000 + k < 2 ^ 32
+signed-below x k h e = go (toBits binary64 x) k _ (toBits-lt binary64 x h) e (narrowBits-le (toBits binary64 x % 2 ^ 63))
+  where
+    go : (b k n : ℕ) → b < 2 ^ 64 → k ≡ n → n ≤ 0x7F80_0000 → b / 2 ^ 63 * 0x8000_0000 + k < 2 ^ 32
+    go b k n h e l = omega arith
+
+fields-minus : (x t : ℕ) → ofFields binary32 true x t ≡ neg (ofFields binary32 false x t)
+unfolding ofFields odd neg
+fields-minus zero zero = refl
+fields-minus zero (suc t) = refl
+fields-minus (suc x) t = go (eqb (suc x) 255) (eqb t 0) (hid binary32 + t)
+  where
+    go : (a b : Bool) (q : ℕ) → cond a (cond b (inf true) nan) (odd 24 true q x 149) ≡ neg (cond a (cond b (inf false) nan) (odd 24 false q x 149))
+    go true true q = refl
+    go true false q = refl
+    go false b zero = refl
+    go false b (suc q) = refl
+
+pub bits-minus : (n : ℕ) → n < 0x8000_0000 → ofBits binary32 (0x8000_0000 + n) ≡ neg (ofBits binary32 n)
+unfolding ofBits
+bits-minus n h =
+    let a : leb 0x8000_0000 (0x8000_0000 + n) ≡ true = le-leb 0x8000_0000 (0x8000_0000 + n) (omega arith) in
+    let b : (0x8000_0000 + n) % 0x8000_0000 ≡ n = omega arith in
+    let c : (0x8000_0000 + n) % 0x80_0000 ≡ n % 0x80_0000 = omega arith in
+    let d : leb 0x8000_0000 n ≡ false = lt-leb 0x8000_0000 n h in
+    let e : n % 0x8000_0000 ≡ n = omega arith in
+    rw (a, b, c, d, e) (fields-minus (n / 0x80_0000) (n % 0x80_0000))
+
+-- the pattern's sign, and what is kept of the rest
+pub narrow-law : (x : Float) → T (fits binary64 x) → T (not (isNan x)) → ofBits binary32 (toBits binary64 x / 2 ^ 63 * 0x8000_0000 + narrowBits (toBits binary64 x % 2 ^ 63)) ≡ narrowed x
+narrow-law x h n = go (toBits binary64 x) (plus-law x h n) (minus-law x h n) (toBits-lt binary64 x h) (ltb (toBits binary64 x) (2 ^ 63)) (ltb→lt (toBits binary64 x) (2 ^ 63)) (nltb→le (toBits binary64 x) (2 ^ 63))
+  where
+    go : (b : ℕ) → (b < 2 ^ 63 → ofBits binary32 (narrowBits b) ≡ narrowed x) → (2 ^ 63 ≤ b → neg (ofBits binary32 (narrowBits (b - 2 ^ 63))) ≡ narrowed x) → b < 2 ^ 64
+        → (t : Bool) → (T t → b < 2 ^ 63) → (T (not t) → 2 ^ 63 ≤ b) → ofBits binary32 (b / 2 ^ 63 * 0x8000_0000 + narrowBits (b % 2 ^ 63)) ≡ narrowed x
+    go b p m l true u v =
+        let k = u tt in
+        let d : b / 2 ^ 63 ≡ 0 = omega arith in
+        let r : b % 2 ^ 63 ≡ b = omega arith in
+        let z : 0 * 0x8000_0000 + narrowBits b ≡ narrowBits b = omega arith in
+        rw (d, r, z) (p k)
+    go b p m l false u v =
+        let k = v tt in
+        let d : b / 2 ^ 63 ≡ 1 = omega arith in
+        let r : b % 2 ^ 63 ≡ b - 2 ^ 63 = omega arith in
+        rw (d, r) (bits-minus (narrowBits (b - 2 ^ 63)) (lt-of-le-of-lt (narrowBits-le (b - 2 ^ 63)) (lit< tt)) ∙ m k)
 
 pub unit : (s : ℕ) → s ≤ 54 → 1 * 2 ^ s % 2 ^ 64 ≡ 2 ^ s
 unit s h = rw one-mul (mod-eq-of-lt (pow-lt {j = 64} (lt-of-le-of-lt h (lit< {n = 64} tt))))

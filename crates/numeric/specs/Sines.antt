@@ -1,4 +1,4 @@
--- Document 01's sine with each of its tests made before the series, so that two series can go side by side; and that it is the same.
+-- Document 01's sine with each of its tests made before the series, so that series can go side by side; and that it is the same.
 -- Assumes nothing.
 use mathlib.Core.Path.{_≡_, refl, sym, ap, _∙_}
 use mathlib.Core.Bool.{Bool, true, false, _||_, true≢false}
@@ -23,8 +23,19 @@ signed x v = if pi ≤ᶠ x then neg v else v
 unfoldable pub beyond : Float → Float → Bool
 beyond x y = (x <ᶠ zero64) || (tau ≤ᶠ y)
 
+-- the sine of x within one turn
+abbrev pub withinTurn : Float → Float
+withinTurn x = signed x (series (folded (lowered x)))
+
+-- what f gives for each of four
+pub record EachOf (f : Float → Float) (x y z w a b c d : Float) : Type 0 where
+  pub first : a ≡ f x
+  pub second : b ≡ f y
+  pub third : c ≡ f z
+  pub fourth : d ≡ f w
+
 -- ---- it is the sine
-half-turn : (y : Float) → halfTurn y ≡ signed y (series (folded (lowered y)))
+half-turn : (y : Float) → halfTurn y ≡ withinTurn y
 unfolding halfTurn lowered signed
 half-turn y = by (pi ≤ᶠ y)
   where
@@ -46,15 +57,21 @@ neither : (a b : Bool) → a || b ≡ false → (a ≡ false) × (b ≡ false)
 neither true b e = absurd (true≢false e)
 neither false b e = (refl, e)
 
-within : (x : Float) → beyond x (wrapped x) ≡ false → signed (wrapped x) (series (folded (lowered (wrapped x)))) ≡ sineOf x
+within : (x : Float) → beyond x (wrapped x) ≡ false → withinTurn (wrapped x) ≡ sineOf x
 unfolding beyond sineOf
 within x h =
     let n = neither (x <ᶠ zero64) (tau ≤ᶠ wrapped x) h in
     rw (n .0, once x (n .1)) (sym (half-turn (wrapped x)))
 
--- step by step: x wrapped, lowered, folded, its series, and that with its sign
+pub within-is : (x y w : Float) (b : Bool) → y ≡ wrapped x → b ≡ beyond x y → b ≡ false → w ≡ withinTurn y → w ≡ sineOf x
+within-is x y w b ey eb e ew =
+    let h : beyond x (wrapped x) ≡ false = sym (eb ∙ ap (beyond x) ey) ∙ e in
+    ew ∙ ap withinTurn ey ∙ within x h
+
+-- step by step: y lowered, folded, its series, and that with y's sign
+pub steps-are : (y z f v w : Float) → z ≡ lowered y → f ≡ folded z → v ≡ series f → w ≡ signed y v → w ≡ withinTurn y
+steps-are y z f v w ez ef ev ew = rw (ew, ev, ef, ez)
+
 pub wave-is : (x y z f v w : Float) (b : Bool) → y ≡ wrapped x → b ≡ beyond x y → b ≡ false → z ≡ lowered y → f ≡ folded z → v ≡ series f
     → w ≡ signed y v → w ≡ sineOf x
-wave-is x y z f v w b ey eb e ez ef ev ew =
-    let h : beyond x (wrapped x) ≡ false = sym (eb ∙ ap (beyond x) ey) ∙ e in
-    rw (ew, ev, ef, ez, ey) (within x h)
+wave-is x y z f v w b ey eb e ez ef ev ew = within-is x y w b ey eb e (steps-are y z f v w ez ef ev ew)

@@ -1,15 +1,22 @@
-// Two sines, and the steps of one. A series is seven divisions, each of which waits for the one before it: two go side by side.
+// Four sines, and the steps of one. A series is seven divisions, each of which waits for the one before it: four go side by side.
 use crate::sine::PI;
 use crate::sine::TAU;
 use crate::sine::fold;
 use crate::sine::sine;
 ghost use mathlib.Core.Path.{_≡_};
 ghost use Rattle.numeric.specs.Sine.{series, sineOf};
-ghost use Rattle.numeric.specs.Sines.{wrapped, lowered, signed, beyond};
+ghost use Rattle.numeric.specs.Sines.{wrapped, lowered, signed, beyond, withinTurn, EachOf};
 
 pub struct Pair {
     pub first: f64,
     pub second: f64,
+}
+
+pub struct Four {
+    pub first: f64,
+    pub second: f64,
+    pub third: f64,
+    pub fourth: f64,
 }
 
 pub fn wrap(x: f64) -> f64
@@ -66,27 +73,51 @@ pub fn series_pair(x: f64, y: f64) -> Pair
     }
 }
 
-// The sine of x, and that of y. Phases as they come are within one turn, so that what is beyond it is seldom asked.
-pub fn sines(x: f64, y: f64) -> Pair
-    ensures { λ r. ⌜ (r .first ≡ sineOf x) × (r .second ≡ sineOf y) ⌝ }
+// The sine of each.
+fn each_sine(x: f64, y: f64, z: f64, w: f64) -> Four
+    ensures { λ r. ⌜ EachOf sineOf x y z w (r .first) (r .second) (r .third) (r .fourth) ⌝ }
+{
+    Four {
+        first: sine(x),
+        second: sine(y),
+        third: sine(z),
+        fourth: sine(w),
+    }
+}
+
+// The sine of each, all within one turn.
+fn sines_within(a: f64, b: f64, c: f64, d: f64) -> Four
+    ensures { λ r. ⌜ EachOf withinTurn a b c d (r .first) (r .second) (r .third) (r .fourth) ⌝ }
+{
+    let p = series_pair(fold(lower(a)), fold(lower(b)));
+    let q = series_pair(fold(lower(c)), fold(lower(d)));
+    Four {
+        first: sign(a, p.first),
+        second: sign(b, p.second),
+        third: sign(c, q.first),
+        fourth: sign(d, q.second),
+    }
+}
+
+// The sine of each. Phases as they come are within one turn, so that what is beyond it is seldom asked.
+pub fn sines(x: f64, y: f64, z: f64, w: f64) -> Four
+    ensures { λ r. ⌜ EachOf sineOf x y z w (r .first) (r .second) (r .third) (r .fourth) ⌝ }
 {
     let a = wrap(x);
     let b = wrap(y);
+    let c = wrap(z);
+    let d = wrap(w);
     if is_beyond(x, a) {
-        return Pair {
-            first: sine(x),
-            second: sine(y),
-        };
+        return each_sine(x, y, z, w);
     }
     if is_beyond(y, b) {
-        return Pair {
-            first: sine(x),
-            second: sine(y),
-        };
+        return each_sine(x, y, z, w);
     }
-    let p = series_pair(fold(lower(a)), fold(lower(b)));
-    Pair {
-        first: sign(a, p.first),
-        second: sign(b, p.second),
+    if is_beyond(z, c) {
+        return each_sine(x, y, z, w);
     }
+    if is_beyond(w, d) {
+        return each_sine(x, y, z, w);
+    }
+    sines_within(a, b, c, d)
 }

@@ -15,7 +15,7 @@ use Rattle.resampling.specs.ResampleHeld.{stateOf}
 use Rattle.resampling.specs.Place.{Reached, start-reached}
 use Rattle.refusal.specs.declared.Acceptance.{Acceptance}
 use Rattle.refusal.specs.declared.Acceptance.the-variants as acceptance
-use Rattle.sending.specs.Tx.{Modulator, Sender, sender, Passed, passed, filled, Reading, reading, readRefused, unlessRefused, filledFor, readOf, bitsWait}
+use Rattle.sending.specs.Tx.{Modulator, Sender, sender, filled, Reading, reading, readRefused, unlessRefused, filledFor, readOf, bitsWait}
 use Rattle.sending.specs.TxHeld.{Fed, modulatorOf, senderOf, TxSound, FillsWhole}
 use Rattle.sending.specs.declared.tx.Tx.{Tx}
 
@@ -63,17 +63,17 @@ none-refused served n e = go (ltb 1024 n) refl (ltb 4294967296 (served + n)) ref
     go false f false g e = (ltb-false _ _ f, ltb-false _ _ g)
 
 pub read-filled : (t t′ : Tx) (o o′ : List Float) (n : ℕ) (a : Acceptance) → readRefused (t .served) (length o) ≡ 0
-    → FillsWhole t (length o) o′ a n t′ → reading (acceptanceOf a) (senderOf t′) o′ ≡ readOf (senderOf t) o
+    → FillsWhole t (length o) o′ a n t′ → reading (acceptanceOf a) n (senderOf t′) o′ ≡ readOf (senderOf t) o
 unfolding readOf senderOf
 read-filled t t′ o o′ n a z f =
-    rw (f .accepted, z) (λ i. reading (given tt) (sender (f .is i .after) (f .served i)) (f .is i .samples))
+    rw (f .accepted, z) (λ i. reading (given tt) (f .is i .passes) (sender (f .is i .after) (f .served i)) (f .is i .samples))
 
 pub read-refused : (t : Tx) (o : List Float) (a : Acceptance) → acceptanceOf a ≡ replyOf (readRefused (t .served) (length o)) → isAccepted a ≡ false
-    → reading (acceptanceOf a) (senderOf t) o ≡ readOf (senderOf t) o
+    → reading (acceptanceOf a) 0 (senderOf t) o ≡ readOf (senderOf t) o
 unfolding readOf senderOf
 read-refused t o a e n = go (readRefused (t .served) (length o)) e
   where
-    go : (k : ℕ) → acceptanceOf a ≡ replyOf k → reading (acceptanceOf a) (sender (modulatorOf t) (t .served)) o ≡ unlessRefused k (sender (modulatorOf t) (t .served)) o (filledFor (sender (modulatorOf t) (t .served)) (length o))
+    go : (k : ℕ) → acceptanceOf a ≡ replyOf k → reading (acceptanceOf a) 0 (sender (modulatorOf t) (t .served)) o ≡ unlessRefused k (sender (modulatorOf t) (t .served)) o (filledFor (sender (modulatorOf t) (t .served)) (length o))
     go zero e = absurd (true≢false (sym (yes a e) ∙ n))
       where
         yes : (a : Acceptance) → acceptanceOf a ≡ replyOf 0 → isAccepted a ≡ true

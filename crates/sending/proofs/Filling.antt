@@ -4,7 +4,7 @@ use Prim.Native.Nat.{ℕ, zero, suc, _+_, _-_, _*_, _^_, _<_, _≤_, min}
 use mathlib.Core.Path.{_≡_, refl, sym, ap, ap₂, _∙_, subst}
 use mathlib.Core.Bool.{Bool, true, false}
 use mathlib.Core.List.{List, [], _∷_, _++_, map, append-assoc, append-nil}
-use native.Mathlib.Nat.{le-trans}
+use native.Mathlib.Nat.{le-trans, add-assoc}
 use native.Mathlib.Omega.{arith}
 use lib.Dec.{ltb, eqb}
 use borrow.Author.Tests.{ltb-true, ltb-false, ne-eqb}
@@ -23,7 +23,7 @@ use Rattle.bitqueue.specs.Bits.{BitsHeld}
 use Rattle.refusal.specs.declared.Acceptance.the-variants.{Accepted}
 use Rattle.bell103.specs.declared.TonePair.{TonePair}
 use Rattle.sending.specs.Tone.{Keyer, generated}
-use Rattle.sending.specs.Tx.{Modulator, modulator, scaled, madeFor, batch, Passed, passed, handed, pass, passes, filled}
+use Rattle.sending.specs.Tx.{Modulator, modulator, scaled, madeFor, batch, Passed, passed, handed, pass, Filling, filling, passThen, passes, filled}
 use Rattle.sending.specs.TxHeld.{keyerOf, pendingIn, modulatorOf, Rising, PendingHeld, Fed, TxSound, HandsOver, PassesInto, FillsWhole}
 use Rattle.sending.specs.declared.tx.Wave.{Wave}
 use Rattle.sending.specs.declared.tx.Tx.{Tx}
@@ -32,9 +32,10 @@ use Rattle.sending.proofs.Tones.{generated-length}
 use Rattle.sending.proofs.Counts.{need-low, need-over, room-some}
 
 -- ---- what is written, with what the rest of the passes hands over
-abbrev pub soFar : List Float → ℕ → ℕ → ℕ → Modulator → Passed
+abbrev pub soFar : List Float → ℕ → ℕ → ℕ → Modulator → Filling
 soFar out l written n m =
-    passed (take written out ++ passes (l + 2 - n) m (l - written) .samples) (passes (l + 2 - n) m (l - written) .after)
+    let q = passes (l + 2 - n) m (l - written) in
+    filling (take written out ++ q .samples) (q .after) (n + q .passes)
 
 -- what is pending, without the first c
 pub pending-left : (p : List Float) (from upto c : ℕ) → drop c (pendingIn p from upto) ≡ pendingIn p (from + c) upto
@@ -56,18 +57,19 @@ so-start r t k q a p out from upto l c h =
     let d : pendingIn p (from + c) upto ≡ drop l W = sym (pending-left p from upto c) ∙ sym (drop-least l c W (h .count-is)) in
     rw (z, n, d, h .samples)
 
-none-left : (n : ℕ) (m : Modulator) → passes n m 0 ≡ passed [] m
+none-left : (n : ℕ) (m : Modulator) → passes n m 0 ≡ filling [] m 0
 unfolding passes
 none-left zero m = refl
 none-left (suc n) m = refl
 
-pub so-end : (out : List Float) (l written n : ℕ) (m : Modulator) → length out ≡ l → length out ≤ written → passed out m ≡ soFar out l written n m
+pub so-end : (out : List Float) (l written n : ℕ) (m : Modulator) → length out ≡ l → length out ≤ written → filling out m n ≡ soFar out l written n m
 so-end out l written n m e h =
     let z : l - written ≡ 0 = omega arith in
-    rw (z, none-left (l + 2 - n) m, take-all written out h, append-nil)
+    let y : n + 0 ≡ n = omega arith in
+    rw (z, none-left (l + 2 - n) m, take-all written out h, append-nil, y)
 
 one-more : (n r : ℕ) (m : Modulator) → 0 < n → 0 < r
-    → passes n m r ≡ passed (pass m r .samples ++ passes (n - 1) (pass m r .after) (r - length (pass m r .samples)) .samples) (passes (n - 1) (pass m r .after) (r - length (pass m r .samples)) .after)
+    → passes n m r ≡ passThen (pass m r) (passes (n - 1) (pass m r .after) (r - length (pass m r .samples)))
 unfolding passes
 one-more zero r m h k = absurd (omega arith)
 one-more (suc n) zero m h k = absurd (omega arith)
@@ -88,7 +90,7 @@ module _ (out rest tail : List Float) (l written n count : ℕ) (m m′ : Modula
       ∙ ap (λ (x : List Float). take written out ++ x) (take-append-le count rest tail c) in
       let a : l + 2 - (n + 1) ≡ left - 1 = omega arith in
       let b : l - (written + count) ≡ r - count = omega arith in
-      rw (front, a, b, one-more left r m (omega arith) (omega arith), ey, es, ec, append-assoc)
+      rw (front, a, b, one-more left r m (omega arith) (omega arith), ey, es, ec, append-assoc, add-assoc)
 
 -- ---- how far the resampler gets
 fed-weaker : {i j g h : ℕ} {s : State} → i ≤ j → h ≤ g → Fed j h s → Fed i g s

@@ -51,12 +51,6 @@ unfoldable pub ticked : TonePair → Keyer → Tick
 ticked t k =
     tick (ncoNext (k .nco) .value) (clocked t (ncoNext (k .nco) .state) (k .symPos ⊕ symbolStep) (k .current) (k .bits))
 
--- two samples, and the keyer after them
-pub record TicksTwice (t : TonePair) (k : Keyer) (v v′ : Float) (k″ : Keyer) : Type 0 where
-  pub first : v ≡ ticked t k .value
-  pub second : v′ ≡ ticked t (ticked t k .after) .value
-  pub after : k″ ≡ ticked t (ticked t k .after) .after
-
 -- n samples, and the keyer after them
 pub record Sound : Type 0 where
   pub samples : List Float

@@ -16,7 +16,7 @@ use Rattle.bell103.specs.Roles.{tonesOf}
 use Rattle.bell103.specs.Nco.{ncoNew}
 use Rattle.bell103.specs.declared.Role.{Role}
 use Rattle.bell103.specs.declared.TonePair.{TonePair}
-use Rattle.sending.specs.Tone.{Keyer, keyer, Sound, sound, generated}
+use Rattle.sending.specs.Tone.{Keyer, keyer, Sound, generated}
 
 -- ---- what sounds
 -- the device's rate, the tones, the keyer, the resampler up to the rate, the samples that were made and not yet read, and the output scale
@@ -34,10 +34,6 @@ modulator r t k q p a = record { rate = r; tones = t; keyer = k; resampler = q; 
 -- a sample at the device: "narrowing to nearest, ties to even", then times the amplitude
 unfoldable pub scaled : Float → Float → Float
 scaled a v = mul binary32 (narrowed v) a
-
--- samples at 8,000 Hz, at a device of that rate
-abbrev pub scaledSound : Float → Sound → Sound
-scaledSound a s = sound (map (scaled a) (s .samples)) (s .after)
 
 -- the samples at 8,000 Hz that a pass for r samples generates
 abbrev pub toneFor : Modulator → ℕ → Sound
@@ -69,21 +65,32 @@ handed m r = passed (take r (m .pending)) (modulator (m .rate) (m .tones) (m .ke
 unfoldable pub pass : Modulator → ℕ → Passed
 pass m r = handed (batch m r) r
 
+-- the samples that passes handed over, the modulator, and how many passes these were
+pub record Filling : Type 0 where
+  pub samples : List Float
+  pub after : Modulator
+  pub passes : ℕ
+
+abbrev pub filling : List Float → Modulator → ℕ → Filling
+filling xs m n = record { samples = xs; after = m; passes = n }
+
+-- this pass, and then others
+abbrev pub passThen : Passed → Filling → Filling
+passThen p q = filling (p .samples ++ q .samples) (q .after) (1 + q .passes)
+
 -- passes while places are unwritten, n at most
-unfoldable pub passes : ℕ → Modulator → ℕ → Passed
-passes zero m r = passed [] m
-passes (suc n) m zero = passed [] m
+unfoldable pub passes : ℕ → Modulator → ℕ → Filling
+passes zero m r = filling [] m 0
+passes (suc n) m zero = filling [] m 0
 passes (suc n) m (suc r) =
     let p = pass m (suc r) in
-    let q = passes n (p .after) (suc r - length (p .samples)) in
-    passed (p .samples ++ q .samples) (q .after)
+    passThen p (passes n (p .after) (suc r - length (p .samples)))
 
 -- a slice of n places: first what is pending, which is a pass too, then batches. "passes ≤ length + 2"
-unfoldable pub filled : Modulator → ℕ → Passed
+unfoldable pub filled : Modulator → ℕ → Filling
 filled m n =
     let p = handed m n in
-    let q = passes (n + 1) (p .after) (n - length (p .samples)) in
-    passed (p .samples ++ q .samples) (q .after)
+    passThen p (passes (n + 1) (p .after) (n - length (p .samples)))
 
 -- ---- the sender: what sounds, and the number of samples that it gave
 pub record Sender : Type 0 where
@@ -122,24 +129,26 @@ newOf rate role = if rateRefused rate then made (refused 1) (freshSender dspRate
 unfoldable pub readRefused : ℕ → ℕ → ℕ
 readRefused served n = first (ltb 1024 n) 3 (first (ltb 4294967296 (served + n)) 31 0)
 
+-- the answer, in how many passes the slice was filled, the sender, and the slice
 pub record Reading : Type 0 where
   pub answer : Reply Unit
+  pub passes : ℕ
   pub state : Sender
   pub out : List Float
 
-abbrev pub reading : Reply Unit → Sender → List Float → Reading
-reading a s o = record { answer = a; state = s; out = o }
+abbrev pub reading : Reply Unit → ℕ → Sender → List Float → Reading
+reading a n s o = record { answer = a; passes = n; state = s; out = o }
 
--- "A refused call returns its number alone and leaves state and buffers untouched"
+-- "A refused call returns its number alone and leaves state and buffers untouched": no pass
 abbrev pub unlessRefused : ℕ → Sender → List Float → Reading → Reading
 unlessRefused zero s out accepted = accepted
-unlessRefused (suc k) s out accepted = reading (refused (suc k)) s out
+unlessRefused (suc k) s out accepted = reading (refused (suc k)) 0 s out
 
 -- an accepted read fills the slice whole
 abbrev pub filledFor : Sender → ℕ → Reading
 filledFor s n =
     let p = filled (s .modulator) n in
-    reading (given tt) (sender (p .after) (s .served + n)) (p .samples)
+    reading (given tt) (p .passes) (sender (p .after) (s .served + n)) (p .samples)
 
 unfoldable pub readOf : Sender → List Float → Reading
 readOf s out = unlessRefused (readRefused (s .served) (length out)) s out (filledFor s (length out))

@@ -13,7 +13,7 @@ use Rattle.resampling.specs.ResampleHeld as resample
 use Rattle.resampling.specs.ResampleHeld.{stateOf}
 use Rattle.resampling.specs.Place.{Reached}
 use Rattle.sending.specs.Tone.{Keyer, keyer, generated}
-use Rattle.sending.specs.Tx.{Modulator, modulator, Sender, sender, Passed, passed, pass, filled, scaled}
+use Rattle.sending.specs.Tx.{Modulator, modulator, Sender, sender, Passed, passed, pass, filling, filled, scaled}
 use Rattle.refusal.specs.declared.Acceptance.{Acceptance}
 use Rattle.refusal.specs.declared.Acceptance.the-variants.{Accepted}
 use Rattle.bell103.specs.declared.TonePair.{TonePair}
@@ -94,6 +94,14 @@ pub record SharesInto (xs : List Float) (a : Float) (n : ℕ) (rest : List Float
   pub surplus : take (length xs - count) pending ≡ drop n (map (scaled a) xs)
   pub places : length pending ≡ 64
 
+-- at a rate of 8,000, where the resampler copies, a pass makes a sample more than the n places of the rest
+pub record EqualInto (a : List Bool) (tones : TonePair) (amplitude : Float) (w : Wave) (n : ℕ) (rest pending : List Float) (w′ : Wave) : Type 0 where
+  pub keyer : keyerOf a w′ ≡ generated (n + 1) tones (keyerOf a w) .after
+  pub samples : take n rest ≡ take n (map (scaled amplitude) (generated (n + 1) tones (keyerOf a w) .samples))
+  pub surplus : take 1 pending ≡ drop n (map (scaled amplitude) (generated (n + 1) tones (keyerOf a w) .samples))
+  pub places : length pending ≡ 64
+  pub held : BitsHeld a (w′ .head) (w′ .waiting)
+
 -- a pass over a rest of n places handed over `count` samples, the first of `rest`; the others stand in front of `pending`
 pub record PassesInto (m : Modulator) (n : ℕ) (a : List Bool) (rest : List Float) (count : ℕ) (pending : List Float) (upto : ℕ) (w : Wave) (r : Resampler) : Type 0 where
   pub is : passed (take count rest) (modulator (m .rate) (m .tones) (keyerOf a w) (stateOf r) (pendingIn pending 0 upto) (m .amplitude)) ≡ pass m n
@@ -106,7 +114,7 @@ pub record PassesInto (m : Modulator) (n : ℕ) (a : List Bool) (rest : List Flo
 -- a slice of n places filled whole, and in how many passes
 pub record FillsWhole (t : Tx) (n : ℕ) (out : List Float) (answer : Acceptance) (passes : ℕ) (t′ : Tx) : Type 0 where
   pub accepted : answer ≡ Accepted
-  pub is : passed out (modulatorOf t′) ≡ filled (modulatorOf t) n
+  pub is : filling out (modulatorOf t′) passes ≡ filled (modulatorOf t) n
   pub few : passes ≤ n + 2
   pub served : t′ .served ≡ t .served + n
   pub sound : TxSound t′

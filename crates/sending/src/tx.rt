@@ -21,7 +21,7 @@ use refusal::rate_ok;
 use resampling::resample::Resampler;
 ghost use mathlib.Core.Path.{_≡_};
 ghost use mathlib.Core.Bool.{not, false};
-ghost use mathlib.Core.List.{[], map};
+ghost use mathlib.Core.List.{[], _∷_, map};
 ghost use Prim.Native.Nat.{min, _+_, _*_, _≤_, _<_};
 ghost use lib.ListN.{length, take, replicate};
 ghost use lib.Ieee.{binary32, ofBits};
@@ -31,9 +31,9 @@ ghost use Rattle.refusal.specs.Refusals.{acceptanceOf, isAccepted, countOf, cou
 ghost use Rattle.bitqueue.specs.Bits.{queued, BitsHeld};
 ghost use Rattle.resampling.specs.Resample.{maxOutputLen};
 ghost use Rattle.resampling.specs.ResampleHeld.{stateOf, Sound};
-ghost use Rattle.sending.specs.Tone.{toneOf, struck, tick, ticked, TicksTwice, sound, generated};
-ghost use Rattle.sending.specs.Tx.{modulator, scaled, scaledSound, passed, filled, freshSender, made, newOf, readRefused, reading, readOf, adjusted, amplitudeRefused, amplitudeOf, pendingOf, durationOf};
-ghost use Rattle.sending.specs.TxHeld.{keyerOf, modulatorBy, pendingIn, modulatorOf, senderOf, Rising, PendingHeld, TxSound, MakesInto, SharesInto, PassesInto, HandsOver, FillsWhole};
+ghost use Rattle.sending.specs.Tone.{toneOf, struck, tick, ticked, sound, generated};
+ghost use Rattle.sending.specs.Tx.{modulator, scaled, passed, filled, freshSender, made, newOf, readRefused, reading, readOf, adjusted, amplitudeRefused, amplitudeOf, pendingOf, durationOf};
+ghost use Rattle.sending.specs.TxHeld.{keyerOf, modulatorBy, pendingIn, modulatorOf, senderOf, Rising, PendingHeld, TxSound, MakesInto, SharesInto, EqualInto, PassesInto, HandsOver, FillsWhole};
 
 // What moves with each sample: the oscillator, the symbol clock, and where the bits that wait stand in their ring.
 pub struct Wave {
@@ -135,32 +135,40 @@ fn step(bits: &[bool; 4096], t: TonePair, w: Wave) -> Ticked
     Ticked { value, wave }
 }
 
-struct TickedTwice {
+struct TickedFour {
     first: f64,
     second: f64,
+    third: f64,
+    fourth: f64,
     wave: Wave,
 }
 
-// Two samples, their sines side by side.
-fn step_twice(bits: &[bool; 4096], t: TonePair, w: Wave) -> TickedTwice
+// Four samples, their sines side by side.
+fn step_four(bits: &[bool; 4096], t: TonePair, w: Wave) -> TickedFour
     requires { ⌜ BitsHeld (now bits) (w .head) (w .waiting) ⌝ }
-    ensures { λ r. ⌜ TicksTwice t (keyerOf (now (bits .entry)) w) (r .first) (r .second) (keyerOf (now (bits .entry)) (r .wave)) ⌝ }
+    ensures { λ r. ⌜ sound (r .first ∷ r .second ∷ r .third ∷ r .fourth ∷ []) (keyerOf (now (bits .entry)) (r .wave)) ≡ generated 4 t (keyerOf (now (bits .entry)) w) ⌝ }
     ensures { λ r. ⌜ BitsHeld (now (bits .entry)) (r .wave .head) (r .wave .waiting) ⌝ }
 {
-    let nco = w.nco;
-    let between = advance(bits, t, w);
-    let later = between.nco;
-    let v = sines(nco.phase, later.phase);
-    let wave = advance(bits, t, between);
-    TickedTwice {
+    let one = advance(bits, t, w);
+    let two = advance(bits, t, one);
+    let three = advance(bits, t, two);
+    let four = advance(bits, t, three);
+    let a = w.nco;
+    let b = one.nco;
+    let c = two.nco;
+    let d = three.nco;
+    let v = sines(a.phase, b.phase, c.phase, d.phase);
+    TickedFour {
         first: v.first,
         second: v.second,
-        wave,
+        third: v.third,
+        fourth: v.fourth,
+        wave: four,
     }
 }
 
-// Fills the slice with samples at 8,000 Hz.
-fn generate(bits: &[bool; 4096], t: TonePair, w: Wave, out: &mut [f64]) -> Wave
+// Fills the slice with samples at 8,000 Hz, one by one.
+fn generate_singly(bits: &[bool; 4096], t: TonePair, w: Wave, out: &mut [f64]) -> Wave
     requires { ⌜ BitsHeld (now bits) (w .head) (w .waiting) ⌝ }
     ensures { λ r. ⌜ sound (now (out .exit)) (keyerOf (now (bits .entry)) r) ≡ generated (length (now (out .entry))) t (keyerOf (now (bits .entry)) w) ⌝ }
     ensures { λ r. ⌜ BitsHeld (now (bits .entry)) (r .head) (r .waiting) ⌝ }
@@ -174,6 +182,26 @@ fn generate(bits: &[bool; 4096], t: TonePair, w: Wave, out: &mut [f64]) -> Wave
         i += 1;
     }
     wave
+}
+
+// The same, four by four as far as that goes.
+fn generate(bits: &[bool; 4096], t: TonePair, w: Wave, out: &mut [f64]) -> Wave
+    requires { ⌜ BitsHeld (now bits) (w .head) (w .waiting) ⌝ }
+    ensures { λ r. ⌜ sound (now (out .exit)) (keyerOf (now (bits .entry)) r) ≡ generated (length (now (out .entry))) t (keyerOf (now (bits .entry)) w) ⌝ }
+    ensures { λ r. ⌜ BitsHeld (now (bits .entry)) (r .head) (r .waiting) ⌝ }
+{
+    let mut wave = w;
+    let mut i = 0;
+    while i + 3 < out.len() {
+        let s = step_four(bits, t, wave);
+        out[i] = s.first;
+        out[i + 1] = s.second;
+        out[i + 2] = s.third;
+        out[i + 3] = s.fourth;
+        wave = s.wave;
+        i += 4;
+    }
+    generate_singly(bits, t, wave, &mut out[i..])
 }
 
 // ---- samples at the device
@@ -426,27 +454,76 @@ fn pass(
     pass_long(bits, s, w, r, pending, rest)
 }
 
-// Fills the slice with samples at 8,000 Hz, narrowed and scaled.
-fn generate_scaled(bits: &[bool; 4096], t: TonePair, w: Wave, a: f32, out: &mut [f32]) -> Wave
-    requires { ⌜ BitsHeld (now bits) (w .head) (w .waiting) ⌝ }
-    ensures { λ r. ⌜ sound (now (out .exit)) (keyerOf (now (bits .entry)) r) ≡ scaledSound a (generated (length (now (out .entry))) t (keyerOf (now (bits .entry)) w)) ⌝ }
-    ensures { λ r. ⌜ BitsHeld (now (bits .entry)) (r .head) (r .waiting) ⌝ }
+// ---- a pass at a rate of 8,000, where nothing is resampled
+
+// A pass in an array of the length that it needs: a sample more than the rest has places for.
+fn equal_in(
+    bits: &[bool; 4096],
+    t: TonePair,
+    w: Wave,
+    a: f32,
+    scratch: &mut [f64],
+    pending: &mut [f32],
+    rest: &mut [f32],
+) -> Wave
+    requires { ⌜ BitsHeld (now bits) (w .head) (w .waiting) × (length (now scratch) ≡ length (now rest) + 1) × (length (now pending) ≡ 64) ⌝ }
+    ensures { λ r. ⌜ EqualInto (now (bits .entry)) t a w (length (now (rest .entry))) (now (rest .exit)) (now (pending .exit)) r ⌝ }
 {
-    let mut wave = w;
-    let mut i = 0;
-    while i + 1 < out.len() {
-        let s = step_twice(bits, t, wave);
-        out[i] = scale(a, s.first);
-        out[i + 1] = scale(a, s.second);
-        wave = s.wave;
-        i += 2;
-    }
-    if i < out.len() {
-        let s = step(bits, t, wave);
-        out[i] = scale(a, s.value);
-        return s.wave;
-    }
+    let wave = generate(bits, t, w, scratch);
+    share(scratch, a, pending, rest);
     wave
+}
+
+// A pass over a short rest: a small array is soon cleared.
+fn equal_short(
+    bits: &[bool; 4096],
+    t: TonePair,
+    w: Wave,
+    a: f32,
+    pending: &mut [f32],
+    rest: &mut [f32],
+) -> Wave
+    requires { ⌜ BitsHeld (now bits) (w .head) (w .waiting) × (length (now rest) ≤ 64) × (length (now pending) ≡ 64) ⌝ }
+    ensures { λ r. ⌜ EqualInto (now (bits .entry)) t a w (length (now (rest .entry))) (now (rest .exit)) (now (pending .exit)) r ⌝ }
+{
+    let k = rest.len() + 1;
+    let mut scratch = zeros_80();
+    equal_in(bits, t, w, a, &mut scratch[..k], pending, rest)
+}
+
+// A pass over any rest.
+fn equal_long(
+    bits: &[bool; 4096],
+    t: TonePair,
+    w: Wave,
+    a: f32,
+    pending: &mut [f32],
+    rest: &mut [f32],
+) -> Wave
+    requires { ⌜ BitsHeld (now bits) (w .head) (w .waiting) × (length (now rest) ≤ 1024) × (length (now pending) ≡ 64) ⌝ }
+    ensures { λ r. ⌜ EqualInto (now (bits .entry)) t a w (length (now (rest .entry))) (now (rest .exit)) (now (pending .exit)) r ⌝ }
+{
+    let k = rest.len() + 1;
+    let mut scratch = zeros_1040();
+    equal_in(bits, t, w, a, &mut scratch[..k], pending, rest)
+}
+
+// One pass over the unwritten rest of the caller's slice.
+fn equal_pass(
+    bits: &[bool; 4096],
+    t: TonePair,
+    w: Wave,
+    a: f32,
+    pending: &mut [f32],
+    rest: &mut [f32],
+) -> Wave
+    requires { ⌜ BitsHeld (now bits) (w .head) (w .waiting) × (length (now rest) ≤ 1024) × (length (now pending) ≡ 64) ⌝ }
+    ensures { λ r. ⌜ EqualInto (now (bits .entry)) t a w (length (now (rest .entry))) (now (rest .exit)) (now (pending .exit)) r ⌝ }
+{
+    if rest.len() <= 64 {
+        return equal_short(bits, t, w, a, pending, rest);
+    }
+    equal_long(bits, t, w, a, pending, rest)
 }
 
 // ---- a whole slice
@@ -492,10 +569,14 @@ fn fill_equal(t: Tx, out: &mut [f32]) -> Reading
             state,
         };
     }
-    let wave = generate_scaled(&bits, tones, w, t.amplitude, &mut out[written..]);
-    let s = step(&bits, tones, wave);
-    pending[0] = scale(t.amplitude, s.value);
-    let last = s.wave;
+    let last = equal_pass(
+        &bits,
+        tones,
+        w,
+        t.amplitude,
+        &mut pending,
+        &mut out[written..],
+    );
     let state = Tx {
         rate: t.rate,
         tones,
@@ -679,7 +760,7 @@ impl Tx {
     // Fills the slice whole with the next samples at the device's rate, holding mark when idle.
     pub fn read(self, out: &mut [f32]) -> Reading
         requires { ⌜ TxSound self ⌝ }
-        ensures { λ r. ⌜ (reading (acceptanceOf (r .answer)) (senderOf (r .state)) (now (out .exit)) ≡ readOf (senderOf self) (now (out .entry))) × TxSound (r .state) × (r .passes ≤ length (now (out .entry)) + 2) ⌝ }
+        ensures { λ r. ⌜ (reading (acceptanceOf (r .answer)) (r .passes) (senderOf (r .state)) (now (out .exit)) ≡ readOf (senderOf self) (now (out .entry))) × TxSound (r .state) × (r .passes ≤ length (now (out .entry)) + 2) ⌝ }
     {
         let answer = check(out.len(), self.served);
         if !is_accepted(answer) {

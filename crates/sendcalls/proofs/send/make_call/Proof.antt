@@ -59,7 +59,7 @@ same-length c = search needs
 returns-4 : tie.Need-returns-4
 returns-4 c =
     let w = c .before .before .before .read in
-    let f = from-reading (c .of-reading .result) _ _ (w .ensures .1) _ _ _ (w .ensures .0) (c .of-reading .ensures) in
+    let f = from-reading (c .of-reading .result) _ _ (w .ensures .1) _ _ _ _ (w .ensures .0) (c .of-reading .ensures) in
     (f .0 ∙ sym (reads _ _ _ _ _ (c .before .before .before .before .before .before .before .before .if1 .left) (c .before .before .before .before .before .before .before .if2 .left) (c .before .before .before .before .before .before .if3 .left) (c .before .before .before .before .before .if4 .taken)), f .1)
 
 samples-for-bits-requires : tie.Need-samples-for-bits-requires

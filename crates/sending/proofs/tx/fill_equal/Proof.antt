@@ -2,7 +2,6 @@
 use Rattle.sending.proofs.Equal.{equal-full}
 use Rattle.sending.proofs.Filling.{going-start, going-end, lent-length, rest-length}
 use lib.ListN.{length}
-use Prim.Native.Nat.{_-_}
 use mathlib.Core.Path.{_∙_}
 use native.Mathlib.Omega.{arith}
 use borrow.Author.Needs.{needs}
@@ -27,8 +26,8 @@ part-hand-over-end c = search needs
 hand-over-requires : tie.Need-hand-over-requires
 hand-over-requires c κs = search needs
 
-add-t30 : tie.Need-add-t30
-add-t30 c = search needs
+add-t28 : tie.Need-add-t28
+add-t28 c = search needs
 
 same-length : tie.Need-same-length
 same-length c = search needs
@@ -40,48 +39,41 @@ returns c =
     let t = z .args .t in
     going-end t _ _ (t .pending) (t .wave) (t .resampler) (t .upto) _ _ 1 (z .pre .0) (going-start t _ _ _ (z .pre .0) h (h .places)) (omega (arith, c .if1 .taken, h .places)) (z .pre .3)
 
-mul-generate-scaled : tie.Need-mul-generate-scaled
-mul-generate-scaled c = search needs
+slice-aggregate-equal-pass : tie.Need-slice-aggregate-equal-pass
+slice-aggregate-equal-pass c = search needs
 
-sub-generate-scaled : tie.Need-sub-generate-scaled
-sub-generate-scaled c = search needs
+mul-equal-pass : tie.Need-mul-equal-pass
+mul-equal-pass c = search needs
 
-part-generate-scaled-start : tie.Need-part-generate-scaled-start
-part-generate-scaled-start c = search needs
+sub-equal-pass : tie.Need-sub-equal-pass
+sub-equal-pass c = search needs
 
-part-generate-scaled-end : tie.Need-part-generate-scaled-end
-part-generate-scaled-end c = search needs
+part-equal-pass-start : tie.Need-part-equal-pass-start
+part-equal-pass-start c = search needs
 
-generate-scaled-requires : tie.Need-generate-scaled-requires
-generate-scaled-requires c κs = search needs
+part-equal-pass-end : tie.Need-part-equal-pass-end
+part-equal-pass-end c = search needs
 
-step-requires : tie.Need-step-requires
-step-requires c κs = search needs
-
-scale-requires : tie.Need-scale-requires
-scale-requires c κs = search needs
-
-array-write-pending : tie.Need-array-write-pending
-array-write-pending c = search needs
+equal-pass-requires : tie.Need-equal-pass-requires
+equal-pass-requires c κs = search needs
 
 same-length-2 : tie.Need-same-length-2
 same-length-2 c = search needs
 
 returns-2 : tie.Need-returns-2
 returns-2 c =
-    let z = c .before .before .before .before .before .before .before .before .before .before .before .before .before .before .before .before .before .before .before .before .before .before .before in
-    let h = c .before .before .before .before .before .before .before .before .before .before .before .before .hand-over in
+    let z = c .before .before .before .before .before .before .before .before .before .before .before .before .before .before .before .before .before .before .before .before .before in
+    let h = c .before .before .before .before .before .before .before .before .before .before .hand-over in
+    let p = c .before .before .before .equal-pass in
     let t = z .args .t in
     let L = length (z .args .out .now) in
     let out = h .last .1 .0 in
-    let g = c .before .before .before .before .before .before .generate-scaled in
-    let rest = g .last .1 .1 .1 .1 .0 in
-    let s = c .before .before .step in
+    let rest = p .last .1 .1 .1 .1 .1 .0 in
     let go = going-start t L (h .result) out (z .pre .0) (h .ensures) (h .ensures .places) in
     let n = lent-length out (h .result) L (h .ensures .places) in
-    let k = c .before .before .before .before .before .out2 .given .1 ∙ h .ensures .places in
-    equal-full t L (h .result) _ out (t .pending) rest _ _ _ _ _ (z .pre .0) (z .pre .1) go (omega (arith, c .before .before .before .before .before .before .before .before .before .if1 .left)) (z .pre .3)
-    (rest-length out rest (h .result) L (h .ensures .places) (go .within) k) k (rw n at (g .ensures .0)) (s .ensures .0) (s .ensures .1) (c .before .scale .ensures)
+    let k = c .before .out2 .given .1 ∙ h .ensures .places in
+    equal-full t L (h .result) _ out (t .pending) rest _ _ _ (z .pre .0) (z .pre .1) go (omega (arith, c .before .before .before .before .before .before .before .if1 .left)) (z .pre .3)
+    (rest-length out rest (h .result) L (h .ensures .places) (go .within) k) k (rw n at (p .ensures))
 
 pub fill-equal-spec : {M : Type 1} → statement M
 fill-equal-spec =
@@ -93,16 +85,14 @@ fill-equal-spec =
     part-hand-over-start
     part-hand-over-end
     hand-over-requires
-    add-t30
+    add-t28
     same-length
     returns
-    mul-generate-scaled
-    sub-generate-scaled
-    part-generate-scaled-start
-    part-generate-scaled-end
-    generate-scaled-requires
-    step-requires
-    scale-requires
-    array-write-pending
+    slice-aggregate-equal-pass
+    mul-equal-pass
+    sub-equal-pass
+    part-equal-pass-start
+    part-equal-pass-end
+    equal-pass-requires
     same-length-2
     returns-2)
