@@ -68,7 +68,7 @@ module _ (s : Sender) {s′ : Sender} (a : Acceptance) (text part : List ℕ) (a
       by (acceptance.Refused r) t = refl
 
 -- a block: what is queued, then what is read
-pub block-is : (s : Sender) {q : Sender} (text : List ℕ) (at : ℕ) {n : ℕ} {r : Sender} {a : Reply Unit} (places : List Float) {out : List Float} → sent q n [] ≡ queuedMore s text at
-    → reading a r out ≡ readOf q places → sent r n out ≡ blockOf s text at places
+pub block-is : (s : Sender) {q : Sender} (text : List ℕ) (at : ℕ) {n : ℕ} {r : Sender} {a : Reply Unit} {passes : ℕ} (places : List Float) {out : List Float} → sent q n [] ≡ queuedMore s text at
+    → reading a passes r out ≡ readOf q places → sent r n out ≡ blockOf s text at places
 unfolding blockOf
 block-is s text at places e f = rw (← e, ← f)
