@@ -69,8 +69,9 @@ module _ (r : Called) (a : Reply Unit) (t : Tx) (sound : TxSound t) (part : List
   pub from-adjusted : (q : Adjusted) → adjusted a (senderOf t) ≡ q → (r .number ≡ numberIn a) × (r .value ≡ 0) × (r .state ≡ t) → (outcomeOf r part ≡ ofAdjusted q part) × TxSound (r .state)
   from-adjusted q e f = (rw (← e, f .0, f .1, f .2), rw (f .2) sound)
 
-  pub from-reading : (q : Reading) (p k : ℕ) → reading a p (senderOf t) part ≡ q → (r .number ≡ numberIn a) × (r .value ≡ unlessRefused a k) × (r .state ≡ t) → (outcomeOf r part ≡ ofReading q k) × TxSound (r .state)
-  from-reading q p k e f = (rw (← e, f .0, f .1, f .2), rw (f .2) sound)
+pub from-reading : (a : Reply Unit) (t : Tx) (part : List Float) (q : Reading) (p n k v : ℕ) → reading a p (senderOf t) part ≡ q → k ≡ numberIn a → v ≡ unlessRefused a n
+    → outcome k v (senderOf t) part ≡ ofReading q n
+from-reading a t part q p n k v e ek ev = rw (← e, ek, ev)
 
 pub from-duration : (k v : ℕ) (t : Tx) (part : List Float) (d : Reply ℕ) (e : Reply ℕ) → d ≡ e → (k ≡ numberIn d) × (v ≡ countIn d) → outcome k v (senderOf t) part ≡ ofDuration e (senderOf t) part
 from-duration k v t part d e is f = rw (← is, f .0, f .1)

@@ -7,7 +7,6 @@ use callparts::roles::role_of;
 use refusal::Acceptance;
 use sending::queueing::Queueing;
 use sending::tx::Adjusted;
-use sending::tx::Reading;
 use sending::tx::Tx;
 ghost use mathlib.Core.Path.{_≡_};
 ghost use mathlib.Core.List.{[], _∷_, _++_};
@@ -92,18 +91,6 @@ fn of_adjusted(a: Adjusted) -> Called
     }
 }
 
-fn of_reading(g: Reading, places: usize) -> Called
-    ensures { λ r. ⌜ (r .number ≡ numberIn (acceptanceOf (g .answer))) × (r .value ≡ unlessRefused (acceptanceOf (g .answer)) places) × (r .state ≡ g .state) ⌝ }
-{
-    let answer = g.answer;
-    let state = g.state;
-    Called {
-        number: number_in(answer),
-        value: unless_refused(answer, places),
-        state,
-    }
-}
-
 // The call of this kind, lent these bytes and these places.
 fn make_call(tx: Tx, kind: u64, n: u64, bytes: &[u8], part: &mut [f32]) -> Called
     requires { ⌜ TxSound tx ⌝ }
@@ -120,8 +107,16 @@ fn make_call(tx: Tx, kind: u64, n: u64, bytes: &[u8], part: &mut [f32]) -> Calle
         return of_adjusted(tx.set_amplitude(amplitude_in(n)));
     }
     if kind == READ {
+        // Written out here: the states are large, and each function between would copy them once more.
         let places = part.len();
-        return of_reading(tx.read(part), places);
+        let g = tx.read(part);
+        let answer = g.answer;
+        let state = g.state;
+        return Called {
+            number: number_in(answer),
+            value: unless_refused(answer, places),
+            state,
+        };
     }
     let t = told_of(tx.samples_for_bits(n as usize));
     Called {

@@ -50,17 +50,23 @@ returns-3 c =
 read-requires : tie.Need-read-requires
 read-requires c κs = search needs
 
-of-reading-requires : tie.Need-of-reading-requires
-of-reading-requires c κs = search needs
+number-in-requires : tie.Need-number-in-requires
+number-in-requires c κs = search needs
+
+unless-refused-requires : tie.Need-unless-refused-requires
+unless-refused-requires c κs = search needs
 
 same-length : tie.Need-same-length
 same-length c = search needs
 
 returns-4 : tie.Need-returns-4
 returns-4 c =
-    let w = c .before .before .before .read in
-    let f = from-reading (c .of-reading .result) _ _ (w .ensures .1) _ _ _ _ (w .ensures .0) (c .of-reading .ensures) in
-    (f .0 ∙ sym (reads _ _ _ _ _ (c .before .before .before .before .before .before .before .before .if1 .left) (c .before .before .before .before .before .before .before .if2 .left) (c .before .before .before .before .before .before .if3 .left) (c .before .before .before .before .before .if4 .taken)), f .1)
+    let w = c .before .before .before .before .before .read .ensures in
+    let k = c .before .before .before .before .before .before .before in (
+      from-reading _ _ _ _ _ _ _ _ (w .0) (c .before .number-in .ensures) (c .unless-refused .ensures)
+          ∙ sym (reads _ _ _ _ _ (k .before .before .before .if1 .left) (k .before .before .if2 .left) (k .before .if3 .left) (k .if4 .taken)),
+      w .1,
+    )
 
 samples-for-bits-requires : tie.Need-samples-for-bits-requires
 samples-for-bits-requires c κs = search needs
@@ -92,7 +98,8 @@ make-call-spec =
     of-adjusted-requires
     returns-3
     read-requires
-    of-reading-requires
+    number-in-requires
+    unless-refused-requires
     same-length
     returns-4
     samples-for-bits-requires
