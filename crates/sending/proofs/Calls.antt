@@ -15,7 +15,8 @@ use Rattle.resampling.specs.ResampleHeld.{stateOf}
 use Rattle.resampling.specs.Place.{Reached, start-reached}
 use Rattle.refusal.specs.declared.Acceptance.{Acceptance}
 use Rattle.refusal.specs.declared.Acceptance.the-variants as acceptance
-use Rattle.sending.specs.Tx.{Modulator, Sender, sender, filled, Reading, reading, readRefused, unlessRefused, filledFor, readOf, bitsWait}
+use Rattle.modulation.specs.Modulator.{Modulator}
+use Rattle.sending.specs.Tx.{Sender, sender, filled, Reading, reading, readRefused, unlessRefused, filledFor, readOf, bitsWait}
 use Rattle.sending.specs.TxHeld.{Fed, modulatorOf, senderOf, TxSound, FillsWhole}
 use Rattle.sending.specs.declared.tx.Tx.{Tx}
 

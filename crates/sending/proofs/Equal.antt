@@ -14,12 +14,13 @@ use Rattle.feeding.specs.Flow.{Ran, ran}
 use Rattle.resampling.specs.ResampleHeld.{stateOf}
 use Rattle.refusal.specs.declared.Acceptance.the-variants.{Accepted}
 use Rattle.bell103.specs.declared.TonePair.{TonePair}
-use Rattle.sending.specs.Tone.{Keyer, Sound, sound, generated}
-use Rattle.sending.specs.Tx.{Modulator, modulator, scaled, madeFor, batch, Passed, passed, handed, pass}
-use Rattle.sending.specs.TxHeld.{keyerOf, pendingIn, modulatorOf, Rising, PendingHeld, Fed, TxSound, SharesInto, EqualInto, FillsWhole}
-use Rattle.sending.specs.declared.tx.Wave.{Wave}
+use Rattle.modulation.specs.Tone.{Keyer, Sound, sound, generated}
+use Rattle.modulation.specs.Modulator.{Modulator, modulator, scaled, madeFor, batch, Passed, passed, handed, pass}
+use Rattle.modulation.specs.ModulatorHeld.{keyerOf, pendingIn, Rising, PendingHeld, EqualInto}
+use Rattle.sending.specs.TxHeld.{modulatorOf, Fed, TxSound, FillsWhole}
+use Rattle.modulation.specs.declared.modulate.Wave.{Wave}
 use Rattle.sending.specs.declared.tx.Tx.{Tx}
-use Rattle.sending.proofs.Tones.{generated-length}
+use Rattle.modulation.proofs.Tones.{generated-length}
 use Rattle.sending.proofs.Filling.{Going, On, going-end, so-turn, pending-none, soFar, after}
 
 need-equal : (r : ℕ) → need r 8000 ≡ r + 1
@@ -84,19 +85,3 @@ equal-full t l written from out pending rest tail pending′ w′ u e8 g lt few 
           ∙ subst (λ (z : List Float). soFar out l written 1 (modulator (t .rate) T k q z a) ≡ Rattle.sending.specs.Tx.filled (modulatorOf t) l) none (g .so);
     })
     (omega arith) few
-
--- what a pass leaves, from what its parts ensure
-pub equal-into : (b : List Bool) (t : TonePair) (a : Float) (w w′ : Wave) (n count : ℕ) (xs rest pending : List Float) → sound xs (keyerOf b w′) ≡ generated (n + 1) t (keyerOf b w)
-    → BitsHeld b (w′ .head) (w′ .waiting) → SharesInto xs a n rest count pending → EqualInto b t a w n rest pending w′
-equal-into b t a w w′ n count xs rest pending e held s =
-    let ex : xs ≡ generated (n + 1) t (keyerOf b w) .samples = ap (λ (z : Sound). z .samples) e in
-    let lx : length xs ≡ n + 1 = ap length ex ∙ generated-length (n + 1) t (keyerOf b w) in
-    let c : count ≡ n = omega (arith, s .count-is) in
-    let o : length xs - count ≡ 1 = omega arith in
-    record {
-      keyer = ap (λ (z : Sound). z .after) e;
-      samples = ap (λ (i : ℕ). take i rest) (sym c) ∙ s .samples ∙ ap (λ (l : List Float). take n (map (scaled a) l)) ex;
-      surplus = ap (λ (i : ℕ). take i pending) (sym o) ∙ s .surplus ∙ ap (λ (l : List Float). drop n (map (scaled a) l)) ex;
-      places = s .places;
-      held = held;
-    }

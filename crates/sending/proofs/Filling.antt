@@ -22,14 +22,16 @@ use Rattle.resampling.specs.declared.resample.Resampler.{Resampler}
 use Rattle.bitqueue.specs.Bits.{BitsHeld}
 use Rattle.refusal.specs.declared.Acceptance.the-variants.{Accepted}
 use Rattle.bell103.specs.declared.TonePair.{TonePair}
-use Rattle.sending.specs.Tone.{Keyer, generated}
-use Rattle.sending.specs.Tx.{Modulator, modulator, scaled, madeFor, batch, Passed, passed, handed, pass, Filling, filling, passThen, passes, filled}
-use Rattle.sending.specs.TxHeld.{keyerOf, pendingIn, modulatorOf, Rising, PendingHeld, Fed, TxSound, HandsOver, PassesInto, FillsWhole}
-use Rattle.sending.specs.declared.tx.Wave.{Wave}
+use Rattle.modulation.specs.Tone.{Keyer, generated}
+use Rattle.modulation.specs.Modulator.{Modulator, modulator, scaled, madeFor, batch, Passed, passed, handed, pass}
+use Rattle.sending.specs.Tx.{Filling, filling, passThen, passes, filled}
+use Rattle.modulation.specs.ModulatorHeld.{keyerOf, pendingIn, Rising, PendingHeld, HandsOver, PassesInto}
+use Rattle.sending.specs.TxHeld.{modulatorOf, Fed, TxSound, FillsWhole}
+use Rattle.modulation.specs.declared.modulate.Wave.{Wave}
 use Rattle.sending.specs.declared.tx.Tx.{Tx}
-use Rattle.sending.proofs.Slices.{drop-least, drop-take}
-use Rattle.sending.proofs.Tones.{generated-length}
-use Rattle.sending.proofs.Counts.{need-low, need-over, room-some}
+use Rattle.modulation.proofs.Slices.{drop-least, drop-take}
+use Rattle.modulation.proofs.Tones.{generated-length}
+use Rattle.modulation.proofs.Counts.{need-low, need-over, room-some}
 
 -- ---- what is written, with what the rest of the passes hands over
 abbrev pub soFar : List Float → ℕ → ℕ → ℕ → Modulator → Filling
@@ -196,15 +198,6 @@ module _ (h l written n count rate : ℕ) (t : TonePair) (q : Keyer) (r : Resamp
       went-on h l written n count (stateOf r) (m′ .resampler) w u
       (subst (λ (x : State). Brings (n - (written + 1)) (h + 1025 * (n - 1) + 1025) x count) s
       (subst (λ (i : ℕ). Brings (n - (written + 1)) (h + 1025 * (n - 1) + 1025) (pass m (l - written) .after .resampler) i) k b))
-
--- ---- the unwritten rest of a slice
-pub lent-length : (out : List Float) (written l : ℕ) → length out ≡ l → length (take (length out - written) (drop written out)) ≡ l - written
-lent-length out written l h = simp (length-take, length-drop) (omega arith)
-
--- it comes back as long as it was lent
-pub rest-length : (out rest : List Float) (written l : ℕ) → length out ≡ l → written ≤ l → length (take written out ++ (rest ++ drop (length out - written) (drop written out))) ≡ l
-    → length rest ≡ l - written
-rest-length out rest written l e h g = let u = simp (length-append, length-take, length-drop) at g in omega (arith, u)
 
 -- ---- the loop over the passes, between them: `written` samples after n passes
 pub record Going (t : Tx) (l : ℕ) (out pending : List Float) (w : Wave) (r : Resampler) (upto written from n : ℕ) : Type 0 where

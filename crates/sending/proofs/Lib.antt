@@ -1,8 +1,4 @@
 -- Laws that the proofs of `sending` share.
-pub mod Slices
-pub mod Tones
-pub mod Counts
-pub mod Sharing
 pub mod QueueingLaws
 pub mod Filling
 pub mod Equal

@@ -1,5 +1,4 @@
 -- The definitions that the contracts of `sending` cite, and the theorems about them.
-pub mod Tone
 pub mod Tx
 pub mod TxHeld
 pub mod Queueing

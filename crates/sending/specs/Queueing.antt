@@ -6,8 +6,9 @@ use mathlib.Core.List.{List, _++_}
 use Rattle.numeric.specs.F64.{if_then_else_}
 use Rattle.refusal.specs.Refusals.{Reply, given, refused}
 use Rattle.bitqueue.specs.Requests.{Request, write, idleMark, bitsOf, isRefused, asked}
-use Rattle.sending.specs.Tone.{keyer}
-use Rattle.sending.specs.Tx.{Modulator, modulator, Sender, sender}
+use Rattle.modulation.specs.Tone.{keyer}
+use Rattle.modulation.specs.Modulator.{Modulator, modulator}
+use Rattle.sending.specs.Tx.{Sender, sender}
 use Rattle.sending.specs.declared.tx.Tx.{Tx}
 
 -- these bits behind those that wait; all else as it was

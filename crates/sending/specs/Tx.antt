@@ -2,68 +2,19 @@
 -- stands in specs/TxHeld.antt. Assumes nothing.
 use Prim.Native.Nat.{ℕ, zero, suc, _+_, _-_}
 use mathlib.Core.Bool.{Bool, true, false, not, _&&_}
-use mathlib.Core.List.{List, [], _∷_, _++_, map}
+use mathlib.Core.List.{List, [], _∷_, _++_}
 use lib.Dec.{ltb}
-use lib.ListN.{length, take, drop}
-use lib.Ieee.{Float, binary32, mul, ofBits}
+use lib.ListN.{length}
+use lib.Ieee.{Float, binary32, ofBits}
 use Rattle.numeric.specs.F64.{_≤ᶠ_, if_then_else_, whole, zero64, one64}
-use Rattle.numeric.specs.Convert.{narrowed}
-use Rattle.numeric.specs.Counts.{need, samplesForBits}
-use Rattle.refusal.specs.Refusals.{Reply, given, refused, first, replyOf, rateRefused, dspRate}
-use Rattle.resampling.specs.Resample.{State, state, ranOver, maxOutputLen, fresh}
-use Rattle.feeding.specs.Flow.{Ran}
+use Rattle.numeric.specs.Counts.{samplesForBits}
+use Rattle.refusal.specs.Refusals.{Reply, given, refused, first, rateRefused, dspRate}
+use Rattle.resampling.specs.Resample.{fresh}
 use Rattle.bell103.specs.Roles.{tonesOf}
 use Rattle.bell103.specs.Nco.{ncoNew}
 use Rattle.bell103.specs.declared.Role.{Role}
-use Rattle.bell103.specs.declared.TonePair.{TonePair}
-use Rattle.sending.specs.Tone.{Keyer, keyer, Sound, generated}
-
--- ---- what sounds
--- the device's rate, the tones, the keyer, the resampler up to the rate, the samples that were made and not yet read, and the output scale
-pub record Modulator : Type 0 where
-  pub rate : ℕ
-  pub tones : TonePair
-  pub keyer : Keyer
-  pub resampler : State
-  pub pending : List Float
-  pub amplitude : Float
-
-abbrev pub modulator : ℕ → TonePair → Keyer → State → List Float → Float → Modulator
-modulator r t k q p a = record { rate = r; tones = t; keyer = k; resampler = q; pending = p; amplitude = a }
-
--- a sample at the device: "narrowing to nearest, ties to even", then times the amplitude
-unfoldable pub scaled : Float → Float → Float
-scaled a v = mul binary32 (narrowed v) a
-
--- the samples at 8,000 Hz that a pass for r samples generates
-abbrev pub toneFor : Modulator → ℕ → Sound
-toneFor m r = generated (need r (m .rate)) (m .tones) (m .keyer)
-
--- what the resampler makes of them, in the room that `max_output_len` gives
-abbrev pub madeFor : Modulator → ℕ → Ran
-madeFor m r = ranOver (m .resampler) (maxOutputLen (m .resampler .src) (m .resampler .dst) (need r (m .rate))) (toneFor m r .samples)
-
--- a batch for r samples, all of it pending
-unfoldable pub batch : Modulator → ℕ → Modulator
-batch m r =
-    modulator (m .rate) (m .tones) (toneFor m r .after) (state (m .resampler .src) (m .resampler .dst) (madeFor m r .flow))
-    (map (scaled (m .amplitude)) (madeFor m r .out)) (m .amplitude)
-
--- the samples that were handed over, and the modulator
-pub record Passed : Type 0 where
-  pub samples : List Float
-  pub after : Modulator
-
-abbrev pub passed : List Float → Modulator → Passed
-passed xs m = record { samples = xs; after = m }
-
--- the first r samples that are pending are handed over; "the remainder carries to `pending` for the next call"
-unfoldable pub handed : Modulator → ℕ → Passed
-handed m r = passed (take r (m .pending)) (modulator (m .rate) (m .tones) (m .keyer) (m .resampler) (drop r (m .pending)) (m .amplitude))
-
--- one pass over an unwritten rest of r places
-unfoldable pub pass : Modulator → ℕ → Passed
-pass m r = handed (batch m r) r
+use Rattle.modulation.specs.Tone.{keyer}
+use Rattle.modulation.specs.Modulator.{Modulator, modulator, Passed, handed, pass}
 
 -- the samples that passes handed over, the modulator, and how many passes these were
 pub record Filling : Type 0 where

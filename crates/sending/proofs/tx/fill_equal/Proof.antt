@@ -1,6 +1,8 @@
 -- `tx::fill_equal` meets its contract: what is pending, then one pass at equal rates. Assumes nothing.
 use Rattle.sending.proofs.Equal.{equal-full}
-use Rattle.sending.proofs.Filling.{going-start, going-end, lent-length, rest-length}
+use Rattle.modulation.proofs.Slices.{lent-length}
+use Rattle.modulation.proofs.Slices.{rest-length}
+use Rattle.sending.proofs.Filling.{going-start, going-end}
 use lib.ListN.{length}
 use mathlib.Core.Path.{_∙_}
 use native.Mathlib.Omega.{arith}

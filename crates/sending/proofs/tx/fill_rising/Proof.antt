@@ -1,5 +1,7 @@
 -- `tx::fill_rising` meets its contract: between passes what is written and what is left are together the whole. Assumes nothing.
-use Rattle.sending.proofs.Filling.{Going, going-start, going-turn, going-end, lent-length, rest-length}
+use Rattle.modulation.proofs.Slices.{lent-length}
+use Rattle.modulation.proofs.Slices.{rest-length}
+use Rattle.sending.proofs.Filling.{Going, going-start, going-turn, going-end}
 use lib.ListN.{length}
 use mathlib.Core.Path.{_≡_, refl, sym, _∙_}
 use native.Mathlib.Omega.{arith}

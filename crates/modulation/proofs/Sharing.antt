@@ -1,0 +1,137 @@
+-- What a pass leaves in the slice and in `pending`, from what its parts ensure. Assumes nothing.
+use Prim.Native.Nat.{ℕ, zero, suc, _+_, _-_, _*_, _<_, _≤_, min}
+use mathlib.Core.Path.{_≡_, refl, sym, ap, ap₂, _∙_, subst}
+use mathlib.Core.Bool.{Bool, true, false}
+use mathlib.Core.List.{List, [], _∷_, _++_, map}
+use native.Mathlib.Omega.{arith}
+use lib.ListN.{length, take, drop, length-take, length-drop, length-append, length-map}
+use lib.Seq.{take-at, length-take-le, take-append-seam}
+use lib.Ieee.{Float}
+use Rattle.numeric.specs.Counts.{need}
+use Rattle.refusal.specs.Refusals.{given, countOf, countIn}
+use Rattle.bitqueue.specs.Bits.{BitsHeld}
+use Rattle.resampling.specs.Resample.{State, ranOver, maxOutputLen, Outcome, outcome, processed, laid}
+use Rattle.feeding.specs.Flow.{Ran}
+use Rattle.resampling.specs.ResampleLaws.{accepted, ran-few}
+use Rattle.resampling.specs.ResampleHeld as resample
+use Rattle.resampling.specs.ResampleHeld.{stateOf}
+use Rattle.refusal.specs.declared.Counted.{Counted}
+use Rattle.refusal.specs.declared.Counted.the-variants as counted
+use Rattle.bell103.specs.declared.TonePair.{TonePair}
+use Rattle.resampling.specs.declared.resample.Resampler.{Resampler}
+use Rattle.modulation.specs.declared.modulate.Wave.{Wave}
+use Rattle.modulation.specs.Tone.{Keyer, Sound, sound, generated}
+use Rattle.modulation.specs.Modulator.{Modulator, modulator, scaled, toneFor, madeFor, batch, Passed, passed, handed, pass}
+use Rattle.modulation.specs.ModulatorHeld.{keyerOf, pendingIn, Rising, PendingHeld, HandsOver, SharesInto, MakesInto, EqualInto, PassesInto}
+use Rattle.modulation.proofs.Slices.{take-map, drop-map, take-least, drop-least, take-rest}
+use Rattle.modulation.proofs.Tones.{generated-length}
+use Rattle.modulation.proofs.Counts.{surplus}
+
+-- ---- `hand_over`
+pub hands : (waiting ys tail : List Float) (n c : ℕ) → c ≡ min n (length waiting) → ys ≡ take c waiting → length (ys ++ tail) ≡ n → HandsOver waiting n (ys ++ tail) c
+hands waiting ys tail n c e ey l =
+    let len : length ys ≡ c = rw ey (length-take-le c waiting (omega arith)) in
+    record { places = l; samples = take-at ys tail c len ∙ ey ∙ sym (take-least n c waiting e); count-is = e }
+
+-- ---- `share`
+pub shares : (xs : List Float) (a : Float) (n c : ℕ) (ys tail zs behind : List Float) → c ≡ min n (length xs) → ys ≡ map (scaled a) (take c xs)
+    → zs ≡ map (scaled a) (take (length xs - c) (drop c xs)) → length (zs ++ behind) ≡ 64 → SharesInto xs a n (ys ++ tail) c (zs ++ behind)
+shares xs a n c ys tail zs behind e ey ez l =
+    let f = scaled a in
+    let e′ : c ≡ min n (length (map f xs)) = rw length-map e in
+    let yl : length ys ≡ c = rw (ey, length-map) (length-take-le c xs (omega arith)) in
+    let zl : length zs ≡ length xs - c = rw (ez, length-map, take-rest c xs) (length-drop c xs) in
+    record {
+      samples = take-at ys tail c yl ∙ ey ∙ sym (take-map f c xs) ∙ sym (take-least n c (map f xs) e′);
+      count-is = e;
+      surplus = take-at zs behind (length xs - c) zl ∙ ez ∙ ap (map f) (take-rest c xs) ∙ sym (drop-map f c xs) ∙ sym (drop-least n c (map f xs) e′);
+      places = l;
+    }
+
+-- ---- `make`
+-- a count that is given
+pub count-in : (c : Counted) (n : ℕ) → countOf c ≡ given n → countIn c ≡ n
+count-in (counted.Count k) n e = cc
+count-in (counted.Refused r) n e = let z : _≡_ {A = ℕ} 0 1 = cc in absurd (omega arith)
+
+pub makes : (a : List Bool) (t : TonePair) (w w′ : Wave) (r r′ : Resampler) (n : ℕ) (xs out out′ : List Float) (answer : Counted) (count : ℕ)
+    → sound xs (keyerOf a w′) ≡ generated n t (keyerOf a w) → BitsHeld a (w′ .head) (w′ .waiting) → n ≤ 2048 → length out ≡ maxOutputLen (r .«src_rate») (r .«dst_rate») n
+    → length out′ ≡ length out → outcome (countOf answer) (stateOf r′) out′ ≡ processed (stateOf r) xs out → resample.Sound r′ → count ≡ countIn answer
+    → MakesInto a t w r n out′ count w′ r′
+unfolding stateOf
+makes a t w w′ r r′ n xs out out′ answer count eg held few lo lo′ ep snd ec =
+    let g = generated n t (keyerOf a w) in
+    let ex : xs ≡ g .samples = ap (λ (z : Sound). z .samples) eg in
+    let lx : length xs ≡ n = ap length ex ∙ generated-length n t (keyerOf a w) in
+    let lm : length out ≡ maxOutputLen (r .«src_rate») (r .«dst_rate») (length xs) = lo ∙ ap (maxOutputLen (r .«src_rate») (r .«dst_rate»)) (sym lx) in
+    let R = ranOver (stateOf r) (length out) xs in
+    let f = ep ∙ accepted (stateOf r) xs out (omega arith) (omega (arith, lm)) in
+    let c : count ≡ length (R .out) = ec ∙ count-in answer (length (R .out)) (ap (λ (z : Outcome). z .answer) f) in
+    let oo : out′ ≡ R .out ++ drop (length (R .out)) out = ap (λ (z : Outcome). z .out) f in
+    let fit : length (R .out) ≤ length out = rw lm (ran-few (stateOf r) xs) in
+    let same : R ≡ ranOver (stateOf r) (length out′) (g .samples) = ap₂ (ranOver (stateOf r)) (sym lo′) ex in
+    record {
+      keyer = ap (λ (z : Sound). z .after) eg;
+      samples = ap₂ take c oo ∙ take-append-seam (R .out) _ ∙ ap (λ (z : Ran). z .out) same;
+      within = omega arith;
+      places = lo′ ∙ lo;
+      state = ap (λ (z : Outcome). z .state) f ∙ ap (λ (z : Ran). Rattle.resampling.specs.Resample.state (r .«src_rate») (r .«dst_rate») (z .flow)) same;
+      sound = snd;
+      held = held;
+    }
+
+-- ---- a pass
+joined : (r : ℕ) (t : TonePair) (a : Float) {xs xs′ : List Float} {k k′ : Keyer} {q q′ : State} {ps ps′ : List Float} → xs ≡ xs′ → k ≡ k′ → q ≡ q′ → ps ≡ ps′
+    → passed xs (modulator r t k q ps a) ≡ passed xs′ (modulator r t k′ q′ ps′ a)
+joined r t a e f g h = λ i. passed (e i) (modulator r t (f i) (g i) (h i) a)
+
+module _ (rate : ℕ) (t : TonePair) (amp : Float) (a : List Bool) (w w′ : Wave) (r r′ : Resampler) (n k count : ℕ) (out rest pending : List Float) where
+  abbrev before : Modulator
+  before = modulator rate t (keyerOf a w) (stateOf r) [] amp
+
+  pub pass-into : Rising rate r → MakesInto a t w r (need n rate) out k w′ r′
+      → SharesInto (take k out) amp n rest count pending → PassesInto before n a rest count pending (k - count) w′ r′
+  unfolding pass handed batch stateOf
+  pass-into up m s =
+      let f = scaled amp in
+      let lk : length (take k out) ≡ k = length-take-le k out (m .within) in
+      let lo : length out ≡ maxOutputLen 8000 rate (need n rate) = rw (up .src, up .dst) at (m .places) in
+      let R : ranOver (stateOf r) (length out) (generated (need n rate) t (keyerOf a w) .samples) ≡ madeFor before n =
+      ap (λ (l : ℕ). ranOver (stateOf r) l (generated (need n rate) t (keyerOf a w) .samples)) (m .places) in
+      let made : take k out ≡ madeFor before n .out = m .samples ∙ ap (λ (z : Ran). z .out) R in
+      let z0 : k - count - 0 ≡ length (take k out) - count = omega arith in
+      record {
+        is =
+            joined rate t amp (s .samples ∙ ap (λ (l : List Float). take n (map f l)) made) (m .keyer)
+            (m .state ∙ ap (λ (z : Ran). Rattle.resampling.specs.Resample.state (r .«src_rate») (r .«dst_rate») (z .flow)) R)
+            (ap (λ (i : ℕ). take i pending) z0 ∙ s .surplus ∙ ap (λ (l : List Float). drop n (map f l)) made);
+        within = omega (arith, s .count-is);
+        dry = λ h. omega (arith, s .count-is, lk);
+        pending-held = record { places = s .places; ordered = omega arith; room = omega (arith, s .count-is, lk, m .within, lo, surplus rate n (up .low) (up .high)) };
+        rising =
+            record {
+              low = up .low;
+              high = up .high;
+              sound = m .sound;
+              src = ap (λ (z : State). z .src) (m .state) ∙ up .src;
+              dst = ap (λ (z : State). z .dst) (m .state) ∙ up .dst;
+            };
+        held = m .held;
+      }
+
+-- ---- a pass at a rate of 8,000
+-- what a pass leaves, from what its parts ensure
+pub equal-into : (b : List Bool) (t : TonePair) (a : Float) (w w′ : Wave) (n count : ℕ) (xs rest pending : List Float) → sound xs (keyerOf b w′) ≡ generated (n + 1) t (keyerOf b w)
+    → BitsHeld b (w′ .head) (w′ .waiting) → SharesInto xs a n rest count pending → EqualInto b t a w n rest pending w′
+equal-into b t a w w′ n count xs rest pending e held s =
+    let ex : xs ≡ generated (n + 1) t (keyerOf b w) .samples = ap (λ (z : Sound). z .samples) e in
+    let lx : length xs ≡ n + 1 = ap length ex ∙ generated-length (n + 1) t (keyerOf b w) in
+    let c : count ≡ n = omega (arith, s .count-is) in
+    let o : length xs - count ≡ 1 = omega arith in
+    record {
+      keyer = ap (λ (z : Sound). z .after) e;
+      samples = ap (λ (i : ℕ). take i rest) (sym c) ∙ s .samples ∙ ap (λ (l : List Float). take n (map (scaled a) l)) ex;
+      surplus = ap (λ (i : ℕ). take i pending) (sym o) ∙ s .surplus ∙ ap (λ (l : List Float). drop n (map (scaled a) l)) ex;
+      places = s .places;
+      held = held;
+    }
