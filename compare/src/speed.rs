@@ -66,8 +66,8 @@ pub fn run(part: &str) -> ExitCode {
     ExitCode::SUCCESS
 }
 
-/// Such a text again and again, on a line that is heard well.
-fn line(rate: u32, text: &[u8]) -> Vec<f32> {
+/// Such a text again and again for so many seconds, on a line that is heard well.
+fn line(rate: u32, text: &[u8], seconds: u32) -> Vec<f32> {
     let tones = Tones::heard_by(ORIGINATE);
     let how = Modulation {
         mark: tones.mark,
@@ -78,7 +78,7 @@ fn line(rate: u32, text: &[u8]) -> Vec<f32> {
     };
     let mut tape = Tape::new(rate);
     tape.preamble(how);
-    while tape.seconds() < f64::from(LINE) {
+    while tape.seconds() < f64::from(seconds) {
         tape.bytes(how, text);
     }
     tape.finish()
@@ -108,7 +108,7 @@ fn resampler(src: u32, dst: u32, block: u32) {
 }
 
 fn receiver(receive: Receive, rate: u32, block: u32) {
-    let samples = line(rate, b"TIDE");
+    let samples = line(rate, b"TIDE", LINE);
     let script = [block, 600, 100].repeat(samples.len().div_ceil(block as usize));
     let (mut bytes, mut events) = (vec![0; 1_000], vec![0; 100]);
     let mut answers = vec![0; script.len() / CALL * HEARD];
@@ -167,7 +167,8 @@ fn sender(send: Send, rate: u32, block: usize) {
 /// behind it, which is not the Rust's but ours.
 #[cfg(board)]
 fn board(rate: u32, block: u32) {
-    let samples = line(rate, b"01010D000700C0000005019C88\n");
+    // Two whole lines at least.
+    let samples = line(rate, b"01010D000700C0000005019C88\n", 3 * LINE);
     let lengths = vec![block; samples.len().div_ceil(block as usize)];
     let mut answers = vec![0; JUDGED * lengths.len()];
     let mut shown = [0; SHOWN];
