@@ -209,14 +209,21 @@ fn loops(options: &Options) -> Result<String, Found> {
         let rate = RATES.get(index / 2).copied().unwrap_or(any);
         let role = if index % 2 == 0 { ORIGINATE } else { ANSWER };
         let amplitude = random.pick(&[0.02, 0.5, LOUD]);
-        loop_at(rate, role, amplitude, &random.bytes(30))
+        loop_at(rate, role, amplitude, &random.bytes(30), TRAINING.len())
     })?;
     let bytes: usize = bytes.iter().sum();
     Ok(format!("{} runs in both roles, {bytes} bytes, all heard by both", 2 * rates))
 }
 
-/// The number of bytes that were sent and heard.
-pub fn loop_at(rate: u32, role: u32, amplitude: f32, text: &[u8]) -> Result<usize, Found> {
+/// The number of bytes that were sent and heard. So many at most may be heard
+/// before them.
+pub fn loop_at(
+    rate: u32,
+    role: u32,
+    amplitude: f32,
+    text: &[u8],
+    before: usize,
+) -> Result<usize, Found> {
     let samples = sent_by_the_port(rate, role, amplitude, text);
     let script = [1_000, 600, 100].repeat(samples.len().div_ceil(1_000));
     let case = ReceiverCase { rate, role: 1 - role, samples, script };
@@ -224,13 +231,13 @@ pub fn loop_at(rate: u32, role: u32, amplitude: f32, text: &[u8]) -> Result<usiz
     let heard = check_receiver(&case, &name)?;
     let count: u64 = heard.answers.chunks_exact(HEARD).map(|call| call[1]).sum();
     let heard = &heard.bytes[..count as usize];
-    if !heard.ends_with(text) || heard.len() > TRAINING.len() + text.len() {
+    if !heard.ends_with(text) || heard.len() > before + text.len() {
         return Err(plain(format!("{name}sent {text:02X?}, heard {heard:02X?}")));
     }
     Ok(text.len())
 }
 
-const TRAINING: [u8; 2] = [0x55, 0x55];
+pub const TRAINING: [u8; 2] = [0x55, 0x55];
 
 /// An amplitude with which no sample passes 1 (command `loudest`).
 pub const LOUD: f32 = 0.9;

@@ -12,7 +12,7 @@ use std::process::{Command, ExitCode, Stdio};
 use std::time::Instant;
 
 use crate::cases::{ReceiverCase, SenderCase};
-use crate::compare::{check_receiver, check_sender, loop_at, LOUD};
+use crate::compare::{check_receiver, check_sender, loop_at, LOUD, TRAINING};
 use crate::judge::Judge;
 use crate::lines::{damaged_line, line};
 use crate::random::Random;
@@ -185,7 +185,8 @@ fn loops(options: &Options) -> Result<String, String> {
         let mut random = Random::of_case(options.seed ^ 0x4C4F_4F50, index as u64);
         let rate = 8_000 + (index * 40_000 / (runs - 1).max(1)) as u32;
         let amplitude = random.pick(&[0.02, 0.5, LOUD]);
-        loop_at(rate, index as u32 % 2, amplitude, &random.bytes(30)).map_err(|found| found.words)
+        loop_at(rate, index as u32 % 2, amplitude, &random.bytes(30), TRAINING.len())
+            .map_err(|found| found.words)
     })?;
     Ok(format!("from sender to receiver: {runs} rates, 30 bytes at each, all heard by both"))
 }
@@ -203,7 +204,10 @@ pub fn loops_at(step: usize, bytes: usize) -> ExitCode {
         let mut random = Random::of_case(0x4C4F_4F50, index as u64);
         let rate = 8_000 + (index * step) as u32;
         let amplitude = random.pick(&[0.02, 0.5, LOUD]);
-        loop_at(rate, index as u32 % 2, amplitude, &random.bytes(bytes)).map_err(|f| f.words)
+        let text = random.bytes(bytes);
+        // At some rates a byte more is heard as the carrier rises, by the
+        // original too.
+        loop_at(rate, index as u32 % 2, amplitude, &text, TRAINING.len() + 1).map_err(|f| f.words)
     });
     match heard {
         Ok(heard) => {
