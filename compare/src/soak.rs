@@ -205,7 +205,7 @@ pub fn loops_at(step: usize, bytes: usize) -> ExitCode {
         let rate = 8_000 + (index * step) as u32;
         let amplitude = random.pick(&[0.02, 0.5, LOUD]);
         let text = random.bytes(bytes);
-        // At some rates a byte more is heard as the carrier rises, by the
+        // At 11,184 for one a byte more is heard as the carrier rises, by the
         // original too.
         loop_at(rate, index as u32 % 2, amplitude, &text, TRAINING.len() + 1).map_err(|f| f.words)
     });
