@@ -3,23 +3,27 @@ use Prim.Native.Nat.{ℕ, zero, suc, min, _+_, _*_, _-_, _<_, _≤_}
 use mathlib.Core.Path.{_≡_, refl, sym, ap, _∙_}
 use mathlib.Core.Bool.{true, false}
 use mathlib.Core.List.{List, [], _∷_, _++_, append-assoc}
-use native.Mathlib.Nat.{add-zero, sub-zero}
+use native.Mathlib.Nat.{add-zero, sub-zero, zero-min}
 use native.Mathlib.Numerals.{add-one}
 use native.Mathlib.Omega.{arith}
 use lib.ListN.{length, getD, set, take, drop, length-append, length-drop, take-append-drop}
 use lib.Seq.{drop-drop, getD-drop, length-take-le, sets-eq}
 use lib.Ieee.{Float}
 use Rattle.numeric.specs.Parts.{part-next, part-left, put-front, put-behind}
-use Rattle.refusal.specs.Refusals.{given, refused, rateRefused}
+use Rattle.refusal.specs.Refusals.{given, refused, rateRefused, acceptanceOf}
+use Rattle.refusal.specs.declared.Acceptance.{Acceptance}
 use Rattle.bell103.specs.declared.Role.{Role}
 use Rattle.sending.specs.Tx.{Sender, pendingOf, freshSender, Made, made, newOf}
-use Rattle.sending.specs.TxHeld.{senderOf, TxSound}
+use Rattle.sending.specs.TxHeld.{senderOf, TxSound, FillsWhole}
+use Rattle.sending.specs.declared.tx.Tx.{Tx}
+use Rattle.sending.proofs.Calls.{never-refused, read-filled}
 use Rattle.callparts.specs.Made.{accepted-only, refused-only}
 use Rattle.callparts.specs.Answers.{bit}
 use Rattle.calls.specs.Resample.{Run, ran, after}
 use Rattle.calls.proofs.Calls.{after-after, after-start}
 use Rattle.sendcalls.specs.Send.{Outcome, called, bytesFor, placesFor, told, sentFrom}
-use Rattle.sendcalls.specs.SendSteps.{outcomeOf, Within, calledAt, Stepped}
+use Rattle.sendcalls.specs.SendSteps.{outcomeOf, Within, calledAt, Stepped, SteppedWithin, PlainRead}
+use Rattle.sendcalls.proofs.ByKind.{reads, from-reading}
 use Rattle.sendcalls.specs.declared.send.Called.{Called}
 use Rattle.sendcalls.specs.declared.send.Place.{Place}
 
@@ -77,6 +81,45 @@ module _ (p : Place) (kind n : ℕ) (bytes : List ℕ) (out : List Float) (at-p 
           rest = ap (λ (k : ℕ). drop k out-after) (sym end-is) ∙ put-behind out part′ behind-part (p .written) (at-p .written) ∙ behind-is ∙ part-left out (p .written) (placesFor kind n) f f-is;
           answers = told-is ∙ ap (λ (w : ℕ). before ++ ((r .number ∷ r .value ∷ w ∷ []) ++ behind)) waits-is ∙ ap (λ (o : Outcome). before ++ (told o ++ behind)) gave-is;
         }
+
+-- ---- a plain read in the code: it fills k places from p on, and takes no bytes
+module _ (p : Place) (n k : ℕ) (out : List Float) (k-is : k ≡ min n (length out - p .written)) (few : k ≤ n) (left : k ≤ length out - p .written)
+    (plain : PlainRead (p .state) 3 n) (t : Tx) (a : Acceptance) (passes : ℕ) (part′ : List Float)
+    (fills : FillsWhole (p .state) (length (take (p .written + k - p .written) (drop (p .written) out))) part′ a passes t) where
+  abbrev part : List Float
+  part = take (p .written + k - p .written) (drop (p .written) out)
+
+  abbrev places : ℕ
+  places = p .written + k - p .written
+
+  part-long : length part ≡ places
+  part-long = length-take-le places (drop (p .written) out) (rw (length-drop (p .written) out) (omega arith))
+
+  abbrev filled : Called
+  filled = record { number = 0; value = places; state = t }
+
+  filled-is : (bytes : List ℕ) → outcomeOf filled part′ ≡ called 3 n (senderOf (p .state)) bytes part
+  filled-is bytes =
+      let z = never-refused (p .state .served) (length part) (omega (arith, part-long, plain .short)) (omega (arith, part-long, plain .left)) in
+      let e = ap acceptanceOf (fills .accepted) in
+      from-reading (acceptanceOf a) t part′ _ passes (length part) 0 places (read-filled (p .state) t part part′ passes a z fills) (rw e refl) (rw e (sym part-long))
+      ∙ sym (reads 3 n (senderOf (p .state)) bytes part (λ x. omega arith) (λ x. omega arith) (λ x. omega arith) refl)
+
+  abbrev out-filled : List Float
+  out-filled = take (p .written) out ++ (part′ ++ drop places (drop (p .written) out))
+
+  pub plain-steps : length out-filled ≡ length out → (before behind ans′ : List ℕ) (waits : ℕ) → waits ≡ bit (pendingOf (senderOf t))
+      → ans′ ≡ before ++ ((0 ∷ places ∷ waits ∷ []) ++ behind) → (kind : ℕ) → kind ≡ 3 → (bytes : List ℕ) → Within p bytes out
+      → SteppedWithin p (record { state = t; read = p .read; written = p .written + k }) kind n bytes out out-filled before behind ans′
+  plain-steps long before behind ans′ waits waits-is told-is kind is bytes at-p =
+      let e : p .read ≡ p .read + min 0 (length bytes - p .read) = sym (ap (λ (j : ℕ). p .read + j) (zero-min (length bytes - p .read)) ∙ add-zero (p .read)) in
+      let f = ap (λ (j : ℕ). p .written + j) k-is in
+      let g = filled-is (take (p .read - p .read) (drop (p .read) bytes)) in
+      rw is
+      record {
+        step = call-steps p 3 n bytes out at-p (p .read) (p .written + k) e f filled part′ g (fills .sound) long before behind ans′ waits waits-is told-is;
+        within = call-within p 3 n bytes out at-p (p .read) (p .written + k) e f filled part′ g (fills .sound) long;
+      }
 
 -- ---- calls before calls
 -- before the first of k calls

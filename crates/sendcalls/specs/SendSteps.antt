@@ -5,6 +5,7 @@ use mathlib.Core.List.{List, _++_}
 use lib.ListN.{length, take, drop}
 use lib.Ieee.{Float}
 use Rattle.sending.specs.TxHeld.{senderOf, TxSound}
+use Rattle.sending.specs.declared.tx.Tx.{Tx}
 use Rattle.sendcalls.specs.Send.{Outcome, outcome, called, bytesFor, placesFor, told}
 use Rattle.sendcalls.specs.declared.send.Called.{Called}
 use Rattle.sendcalls.specs.declared.send.Place.{Place}
@@ -31,3 +32,15 @@ pub record Stepped (p q : Place) (kind n : ℕ) (bytes : List ℕ) (out out′ :
   pub front : take (q .written) out′ ≡ take (p .written) out ++ calledAt p kind n bytes out .part
   pub rest : drop (q .written) out′ ≡ drop (placesFor kind n) (drop (p .written) out)
   pub answers : ans′ ≡ before ++ (told (calledAt p kind n bytes out) ++ behind)
+
+-- the same, to a place within the bytes and the samples
+pub record SteppedWithin (p q : Place) (kind n : ℕ) (bytes : List ℕ) (out out′ : List Float) (before behind ans′ : List ℕ) : Type 0 where
+  pub step : Stepped p q kind n bytes out out′ before behind ans′
+  pub within : Within q bytes out′
+
+-- a read of n samples at 8,000 that nothing refuses
+pub record PlainRead (t : Tx) (kind n : ℕ) : Type 0 where
+  pub reads : kind ≡ 3
+  pub equal : t .rate ≡ 8000
+  pub short : n ≤ 1024
+  pub left : t .served + n ≤ 4294967296

@@ -5,19 +5,22 @@ use callparts::answers::told_of;
 use callparts::ends::smaller;
 use callparts::roles::role_of;
 use refusal::Acceptance;
+use refusal::DSP_RATE;
 use sending::queueing::Queueing;
 use sending::tx::Adjusted;
 use sending::tx::Tx;
+use sending::tx::fill_equal;
 ghost use mathlib.Core.Path.{_≡_};
-ghost use mathlib.Core.List.{[], _∷_, _++_};
-ghost use Prim.Native.Nat.{_+_, _≤_};
+ghost use mathlib.Core.Bool.{true};
+ghost use mathlib.Core.List.{List, [], _∷_, _++_};
+ghost use Prim.Native.Nat.{ℕ, _+_, _≤_};
 ghost use lib.ListN.{length, take, drop};
 ghost use Rattle.refusal.specs.Refusals.{acceptanceOf};
 ghost use Rattle.sending.specs.TxHeld.{senderOf, TxSound};
 ghost use Rattle.callparts.specs.Answers.{numberIn};
 ghost use Rattle.calls.specs.Resample.{ran};
 ghost use Rattle.sendcalls.specs.Send.{unlessRefused, amplitudeIn, called, bytesFor, placesFor, callsFor, sentFrom, sendRun};
-ghost use Rattle.sendcalls.specs.SendSteps.{outcomeOf, Within, Stepped};
+ghost use Rattle.sendcalls.specs.SendSteps.{outcomeOf, Within, Stepped, SteppedWithin, PlainRead};
 
 // Kinds of calls: `write`, `write_idle_mark`, `set_amplitude`, `read`; any other is `samples_for_bits`.
 const WRITE: u64 = 0;
@@ -173,6 +176,43 @@ fn one_call(
     }
 }
 
+// Whether a call is a read at 8,000 that nothing refuses.
+fn is_plain(p: Place, kind: u64, n: u64) -> bool
+    requires { ⌜ TxSound (p .state) ⌝ }
+    ensures { λ r. ⌜ (r ≡ true → PlainRead (p .state) kind n) ⌝ }
+{
+    let tx = p.state;
+    if kind == READ {
+        if tx.rate == DSP_RATE {
+            if n <= 1024 {
+                return tx.served + n <= 4294967296;
+            }
+        }
+    }
+    false
+}
+
+// Such a read. Only a few numbers of the sender move, and it stands in an arm of its own in the loop, so that the rest of the state need
+// not be handed on.
+fn plain_read(p: Place, n: u64, samples: &mut [f32], answers: &mut [u64], at: usize) -> Place
+    requires { ⌜ PlainRead (p .state) 3 n × TxSound (p .state) × (p .written ≤ length (now samples)) × (at + 3 ≤ length (now answers)) ⌝ }
+    ensures { λ r. ⌜ ((kind : ℕ) → kind ≡ 3 → (bytes : List ℕ) → Within p bytes (now (samples .entry)) → SteppedWithin p r kind n bytes (now (samples .entry)) (now (samples .exit)) (take at (now (answers .entry))) (drop (at + 3) (now (answers .entry))) (now (answers .exit))) ⌝ }
+{
+    let tx = p.state;
+    let read = p.read;
+    let written = p.written;
+    let filled = written + smaller(n as usize, samples.len() - written);
+    let g = fill_equal(tx, &mut samples[written..filled]);
+    let next = g.state;
+    let waits = one_if(next.pending());
+    tell_sent(answers, at, 0, filled - written, waits);
+    Place {
+        state: next,
+        read,
+        written: filled,
+    }
+}
+
 // Each call of the script that has room for its answer.
 fn all_calls(tx: Tx, data: &[u8], script: &[u64], samples: &mut [f32], answers: &mut [u64]) -> usize
     requires { ⌜ TxSound tx ⌝ }
@@ -188,7 +228,11 @@ fn all_calls(tx: Tx, data: &[u8], script: &[u64], samples: &mut [f32], answers: 
     while i < calls {
         let kind = script[2 * i];
         let n = script[2 * i + 1];
-        place = one_call(place, kind, n, data, samples, answers, 3 * i);
+        if is_plain(place, kind, n) {
+            place = plain_read(place, n, samples, answers, 3 * i);
+        } else {
+            place = one_call(place, kind, n, data, samples, answers, 3 * i);
+        }
         i += 1;
     }
     calls

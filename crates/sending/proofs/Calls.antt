@@ -5,7 +5,7 @@ use mathlib.Core.Bool.{Bool, true, false, not, _||_, _&&_, true≢false}
 use mathlib.Core.List.{List, []}
 use native.Mathlib.Omega.{arith}
 use lib.Dec.{eqb, ltb}
-use borrow.Author.Tests.{lt-ltb, ltb-false}
+use borrow.Author.Tests.{lt-ltb, le-ltb, ltb-false}
 use lib.ListN.{length}
 use lib.Ieee.{Float}
 use Rattle.refusal.specs.Refusals.{Reply, given, refused, first, replyOf, acceptanceOf, isAccepted, rateRefused, ratesRefused}
@@ -62,6 +62,10 @@ none-refused served n e = go (ltb 1024 n) refl (ltb 4294967296 (served + n)) ref
     go true f b g e = absurd (omega arith)
     go false f true g e = absurd (omega arith)
     go false f false g e = (ltb-false _ _ f, ltb-false _ _ g)
+
+pub never-refused : (served n : ℕ) → n ≤ 1024 → served + n ≤ 4294967296 → readRefused served n ≡ 0
+unfolding readRefused first
+never-refused served n h k = rw (le-ltb 1024 n h, le-ltb 4294967296 (served + n) k)
 
 pub read-filled : (t t′ : Tx) (o o′ : List Float) (n : ℕ) (a : Acceptance) → readRefused (t .served) (length o) ≡ 0
     → FillsWhole t (length o) o′ a n t′ → reading (acceptanceOf a) n (senderOf t′) o′ ≡ readOf (senderOf t) o

@@ -51,7 +51,8 @@ pub struct Reading {
 }
 
 // At a rate of 8,000 nothing is resampled: what is pending, then one pass, which makes a sample more than the slice has places for.
-fn fill_equal(t: Tx, out: &mut [f32]) -> Reading
+// For the crates above too, which meet what it requires: no entry for hosts, who call `read`.
+pub fn fill_equal(t: Tx, out: &mut [f32]) -> Reading
     requires { ⌜ TxSound t × (t .rate ≡ 8000) × (length (now out) ≤ 1024) × (t .served + length (now out) ≤ 4294967296) ⌝ }
     ensures { λ r. ⌜ FillsWhole t (length (now (out .entry))) (now (out .exit)) (r .answer) (r .passes) (r .state) ⌝ }
 {

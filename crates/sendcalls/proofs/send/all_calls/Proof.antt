@@ -1,4 +1,5 @@
-use Prim.Native.Nat.{_*_, _-_, _≤_, zero-le}
+use Prim.Native.Nat.{_+_, _*_, _-_, _≤_, zero-le}
+use mathlib.Core.Logic.{⊎-elim}
 use mathlib.Core.Path.{_≡_, refl, sym, _∙_}
 use native.Mathlib.Omega.{arith}
 use lib.ListN.{length, take, drop}
@@ -49,13 +50,24 @@ mul-n-2 c = search needs
 shared-slice-read-n : tie.Need-shared-slice-read-n Inv-loop μ-loop
 shared-slice-read-n c = search needs
 
+is-plain-requires : tie.Need-is-plain-requires Inv-loop μ-loop
+is-plain-requires c κs = search needs
+
+mul-plain-read : tie.Need-mul-plain-read Inv-loop μ-loop
+mul-plain-read c = search needs
+
+plain-read-requires : tie.Need-plain-read-requires Inv-loop μ-loop
+plain-read-requires c κs =
+    let l = c .before .before .before .before .before .before .before .loop in
+    let q = c .before .before .before .is-plain .ensures (c .before .before .if1 .taken) in
+    let r = l .inv .3 in
+    (rw (q .reads) at q, r .sound, r .written, omega (arith, l .inv .2, c .before .before .before .before .before .before .loop-test .taken, c .before .before .before .before .before .before .before .before .smaller .ensures .2))
+
 mul-one-call : tie.Need-mul-one-call Inv-loop μ-loop
 mul-one-call c = search needs
 
 one-call-requires : tie.Need-one-call-requires Inv-loop μ-loop
-one-call-requires c κs =
-    let l = c .before .before .before .before .before .loop in
-    (l .inv .3, omega (arith, l .inv .2, c .before .before .before .before .loop-test .taken, c .before .before .before .before .before .before .smaller .ensures .2))
+one-call-requires c κs = search needs
 
 add-i : tie.Need-add-i Inv-loop μ-loop
 add-i c = search needs
@@ -65,11 +77,18 @@ loop-less c = search needs
 
 loop-again : tie.Need-loop-again Inv-loop μ-loop
 loop-again c =
-    let l = c .before .before .before .before .before .before .before .before .before .before .loop in
-    let n = c .before .before .before .before .before .before .before .before .before .before .before .smaller .ensures in
-    let t = c .before .before .before .before .before .before .before .before .before .loop-test .taken in
-    let o = c .before .before .before .before .one-call in
-    (omega (arith, t), search needs, search needs, o .ensures .1, send-step _ _ _ _ (omega (arith, t, n .2, l .inv .2)) _ _ _ _ _ (o .ensures .0) _ _ (omega (arith, t)) ∙ l .inv .4)
+    let l = c .before .before .before .before .before .loop in
+    let n = c .before .before .before .before .before .before .smaller .ensures in
+    let t = c .before .before .before .before .loop-test .taken in
+    let room : 3 * l .i + 3 ≤ length (l .answers) = omega (arith, t, n .2, l .inv .2) in
+    ⊎-elim
+    (λ w.
+    let s = w .3 .ensures _ (c .before .is-plain .ensures (w .0 .taken) .reads) _ (l .inv .3) in
+    rw (w .8, w .9, w .10) (omega (arith, t), search needs, search needs, s .within, send-step _ _ _ _ room _ _ _ _ _ (s .step) _ _ (omega (arith, t)) ∙ l .inv .4))
+    (λ w.
+    let s = w .3 .ensures in
+    rw (w .8, w .9, w .10) (omega (arith, t), search needs, search needs, s .1, send-step _ _ _ _ room _ _ _ _ _ (s .0) _ _ (omega (arith, t)) ∙ l .inv .4))
+    (c .if1 .came)
 
 same-length : tie.Need-same-length Inv-loop μ-loop
 same-length c = search needs
@@ -99,6 +118,9 @@ all-calls-spec =
     add-n
     mul-n-2
     shared-slice-read-n
+    is-plain-requires
+    mul-plain-read
+    plain-read-requires
     mul-one-call
     one-call-requires
     add-i
