@@ -1,6 +1,6 @@
 -- Calls of the sender, one after the other, over lists. Assumes nothing.
 use Prim.Native.Nat.{ℕ, zero, suc, min, _+_, _*_, _-_, _<_, _≤_}
-use mathlib.Core.Path.{_≡_, refl, sym, ap, _∙_}
+use mathlib.Core.Path.{_≡_, refl, sym, ap, _∙_, subst}
 use mathlib.Core.Bool.{true, false}
 use mathlib.Core.List.{List, [], _∷_, _++_, append-assoc}
 use native.Mathlib.Nat.{add-zero, sub-zero, zero-min}
@@ -10,12 +10,13 @@ use lib.ListN.{length, getD, set, take, drop, length-append, length-drop, take-a
 use lib.Seq.{drop-drop, getD-drop, length-take-le, sets-eq}
 use lib.Ieee.{Float}
 use Rattle.numeric.specs.Parts.{part-next, part-left, put-front, put-behind}
-use Rattle.refusal.specs.Refusals.{given, refused, rateRefused, acceptanceOf}
-use Rattle.refusal.specs.declared.Acceptance.{Acceptance}
+use Rattle.refusal.specs.Refusals.{given, refused, rateRefused}
+use Rattle.refusal.specs.declared.Acceptance.the-variants.{Accepted}
 use Rattle.bell103.specs.declared.Role.{Role}
 use Rattle.sending.specs.Tx.{Sender, pendingOf, freshSender, Made, made, newOf}
-use Rattle.sending.specs.TxHeld.{senderOf, TxSound, FillsWhole}
+use Rattle.sending.specs.TxHeld.{senderOf, TxSound, FillsWhole, partsOf, FillsPlaces, afterFilled}
 use Rattle.sending.specs.declared.tx.Tx.{Tx}
+use Rattle.sending.specs.declared.tx.Filled.{Filled}
 use Rattle.sending.proofs.Calls.{never-refused, read-filled}
 use Rattle.callparts.specs.Made.{accepted-only, refused-only}
 use Rattle.callparts.specs.Answers.{bit}
@@ -84,41 +85,47 @@ module _ (p : Place) (kind n : ℕ) (bytes : List ℕ) (out : List Float) (at-p 
 
 -- ---- a plain read in the code: it fills k places from p on, and takes no bytes
 module _ (p : Place) (n k : ℕ) (out : List Float) (k-is : k ≡ min n (length out - p .written)) (few : k ≤ n) (left : k ≤ length out - p .written)
-    (plain : PlainRead (p .state) 3 n) (t : Tx) (a : Acceptance) (passes : ℕ) (part′ : List Float)
-    (fills : FillsWhole (p .state) (length (take (p .written + k - p .written) (drop (p .written) out))) part′ a passes t) where
+    (plain : PlainRead (p .state) 3 n) (sound : TxSound (p .state)) (f : Filled) (pending′ part′ : List Float)
+    (fills : FillsPlaces (partsOf (p .state)) (length (take (p .written + k - p .written) (drop (p .written) out))) part′ pending′ f)
+    (t : Tx) (t-is : t ≡ afterFilled (p .state) pending′ f k) where
   abbrev part : List Float
   part = take (p .written + k - p .written) (drop (p .written) out)
 
-  abbrev places : ℕ
-  places = p .written + k - p .written
+  part-long : length part ≡ k
+  part-long = length-take-le (p .written + k - p .written) (drop (p .written) out) (rw (length-drop (p .written) out) (omega arith)) ∙ same (p .written) k
+    where
+      same : (w k : ℕ) → w + k - w ≡ k
+      same w k = omega arith
 
-  part-long : length part ≡ places
-  part-long = length-take-le places (drop (p .written) out) (rw (length-drop (p .written) out) (omega arith))
+  whole : FillsWhole (p .state) (length part) part′ Accepted (f .passes) t
+  whole =
+      rw t-is
+      (subst (λ (j : ℕ). FillsWhole (p .state) (length part) part′ Accepted (f .passes) (afterFilled (p .state) pending′ f j)) part-long
+      (fills .whole (p .state) refl sound (plain .equal) (omega (arith, part-long, plain .left))))
 
   abbrev filled : Called
-  filled = record { number = 0; value = places; state = t }
+  filled = record { number = 0; value = k; state = t }
 
   filled-is : (bytes : List ℕ) → outcomeOf filled part′ ≡ called 3 n (senderOf (p .state)) bytes part
   filled-is bytes =
       let z = never-refused (p .state .served) (length part) (omega (arith, part-long, plain .short)) (omega (arith, part-long, plain .left)) in
-      let e = ap acceptanceOf (fills .accepted) in
-      from-reading (acceptanceOf a) t part′ _ passes (length part) 0 places (read-filled (p .state) t part part′ passes a z fills) (rw e refl) (rw e (sym part-long))
+      from-reading (given tt) t part′ _ (f .passes) (length part) 0 k (read-filled (p .state) t part part′ (f .passes) Accepted z whole) refl (sym part-long)
       ∙ sym (reads 3 n (senderOf (p .state)) bytes part (λ x. omega arith) (λ x. omega arith) (λ x. omega arith) refl)
 
   abbrev out-filled : List Float
-  out-filled = take (p .written) out ++ (part′ ++ drop places (drop (p .written) out))
+  out-filled = take (p .written) out ++ (part′ ++ drop (p .written + k - p .written) (drop (p .written) out))
 
   pub plain-steps : length out-filled ≡ length out → (before behind ans′ : List ℕ) (waits : ℕ) → waits ≡ bit (pendingOf (senderOf t))
-      → ans′ ≡ before ++ ((0 ∷ places ∷ waits ∷ []) ++ behind) → (kind : ℕ) → kind ≡ 3 → (bytes : List ℕ) → Within p bytes out
+      → ans′ ≡ before ++ ((0 ∷ k ∷ waits ∷ []) ++ behind) → (kind : ℕ) → kind ≡ 3 → (bytes : List ℕ) → Within p bytes out
       → SteppedWithin p (record { state = t; read = p .read; written = p .written + k }) kind n bytes out out-filled before behind ans′
   plain-steps long before behind ans′ waits waits-is told-is kind is bytes at-p =
       let e : p .read ≡ p .read + min 0 (length bytes - p .read) = sym (ap (λ (j : ℕ). p .read + j) (zero-min (length bytes - p .read)) ∙ add-zero (p .read)) in
-      let f = ap (λ (j : ℕ). p .written + j) k-is in
-      let g = filled-is (take (p .read - p .read) (drop (p .read) bytes)) in
+      let g = ap (λ (j : ℕ). p .written + j) k-is in
+      let o = filled-is (take (p .read - p .read) (drop (p .read) bytes)) in
       rw is
       record {
-        step = call-steps p 3 n bytes out at-p (p .read) (p .written + k) e f filled part′ g (fills .sound) long before behind ans′ waits waits-is told-is;
-        within = call-within p 3 n bytes out at-p (p .read) (p .written + k) e f filled part′ g (fills .sound) long;
+        step = call-steps p 3 n bytes out at-p (p .read) (p .written + k) e g filled part′ o (whole .sound) long before behind ans′ waits waits-is told-is;
+        within = call-within p 3 n bytes out at-p (p .read) (p .written + k) e g filled part′ o (whole .sound) long;
       }
 
 -- ---- calls before calls

@@ -9,7 +9,8 @@ use refusal::DSP_RATE;
 use sending::queueing::Queueing;
 use sending::tx::Adjusted;
 use sending::tx::Tx;
-use sending::tx::fill_equal;
+use sending::tx::fill_places;
+use sending::tx::with_filled;
 ghost use mathlib.Core.Path.{_≡_};
 ghost use mathlib.Core.Bool.{true};
 ghost use mathlib.Core.List.{List, [], _∷_, _++_};
@@ -201,11 +202,25 @@ fn plain_read(p: Place, n: u64, samples: &mut [f32], answers: &mut [u64], at: us
     let tx = p.state;
     let read = p.read;
     let written = p.written;
-    let filled = written + smaller(n as usize, samples.len() - written);
-    let g = fill_equal(tx, &mut samples[written..filled]);
-    let next = g.state;
+    let places = smaller(n as usize, samples.len() - written);
+    let filled = written + places;
+    let bits = tx.bits;
+    let tones = tx.tones;
+    let w = tx.wave;
+    let mut pending = tx.pending;
+    let f = fill_places(
+        &bits,
+        tones,
+        w,
+        tx.amplitude,
+        &mut pending,
+        tx.from,
+        tx.upto,
+        &mut samples[written..filled],
+    );
+    let next = with_filled(tx, pending, f, places);
     let waits = one_if(next.pending());
-    tell_sent(answers, at, 0, filled - written, waits);
+    tell_sent(answers, at, 0, places, waits);
     Place {
         state: next,
         read,

@@ -16,12 +16,12 @@ use Rattle.refusal.specs.declared.Acceptance.the-variants.{Accepted}
 use Rattle.bell103.specs.declared.TonePair.{TonePair}
 use Rattle.modulation.specs.Tone.{Keyer, Sound, sound, generated}
 use Rattle.modulation.specs.Modulator.{Modulator, modulator, scaled, madeFor, batch, Passed, passed, handed, pass}
-use Rattle.modulation.specs.ModulatorHeld.{keyerOf, pendingIn, Rising, PendingHeld, EqualInto}
-use Rattle.sending.specs.TxHeld.{modulatorOf, Fed, TxSound, FillsWhole}
+use Rattle.modulation.specs.ModulatorHeld.{keyerOf, pendingIn, Rising, PendingHeld, HandsOver, EqualInto}
+use Rattle.sending.specs.TxHeld.{modulatorOf, Fed, TxSound, FillsWhole, after, Parts, FillsPlaces}
 use Rattle.modulation.specs.declared.modulate.Wave.{Wave}
 use Rattle.sending.specs.declared.tx.Tx.{Tx}
 use Rattle.modulation.proofs.Tones.{generated-length}
-use Rattle.sending.proofs.Filling.{Going, On, going-end, so-turn, pending-none, soFar, after}
+use Rattle.sending.proofs.Filling.{Going, On, going-start, going-end, so-turn, pending-none, soFar}
 
 need-equal : (r : ℕ) → need r 8000 ≡ r + 1
 need-equal r = omega arith
@@ -85,3 +85,25 @@ equal-full t l written from out pending rest tail pending′ w′ u e8 g lt few 
           ∙ subst (λ (z : List Float). soFar out l written 1 (modulator (t .rate) T k q z a) ≡ Rattle.sending.specs.Tx.filled (modulatorOf t) l) none (g .so);
     })
     (omega arith) few
+
+-- ---- the same for each sender that has these parts
+module _ (p : Parts) (l c : ℕ) (out : List Float) (h : HandsOver (pendingIn (p .pending) (p .from) (p .upto)) l out c) (long : length out ≡ l) where
+  -- what is pending is enough
+  pub places-first : l ≤ c → FillsPlaces p l out (p .pending) (record { wave = p .wave; from = p .from + c; upto = p .upto; passes = 1 })
+  places-first n =
+      record {
+        whole =
+            λ t is u r few.
+            rw is (going-end t l out (t .pending) (t .wave) (t .resampler) (t .upto) c (t .from + c) 1 u (going-start t l c out u (rw is at h) long) (omega arith) few);
+      }
+
+  -- then one pass
+  pub places-both : (rest tail pending′ : List Float) (w′ : Wave) → c < l → length rest ≡ l - c → length (take c out ++ (rest ++ tail)) ≡ l
+      → EqualInto (p .bits) (p .tones) (p .amplitude) (p .wave) (l - c) rest pending′ w′
+      → FillsPlaces p l (take c out ++ (rest ++ tail)) pending′ (record { wave = w′; from = 0; upto = 1; passes = 2 })
+  places-both rest tail pending′ w′ n lr lo e =
+      record {
+        whole =
+            λ t is u r few.
+            equal-full t l c (t .from + c) out (t .pending) rest tail pending′ w′ u r (going-start t l c out u (rw is at h) long) n few lr lo (rw is at e);
+      }

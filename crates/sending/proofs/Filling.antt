@@ -26,7 +26,7 @@ use Rattle.modulation.specs.Tone.{Keyer, generated}
 use Rattle.modulation.specs.Modulator.{Modulator, modulator, scaled, madeFor, batch, Passed, passed, handed, pass}
 use Rattle.sending.specs.Tx.{Filling, filling, passThen, passes, filled}
 use Rattle.modulation.specs.ModulatorHeld.{keyerOf, pendingIn, Rising, PendingHeld, HandsOver, PassesInto}
-use Rattle.sending.specs.TxHeld.{modulatorOf, Fed, TxSound, FillsWhole}
+use Rattle.sending.specs.TxHeld.{modulatorOf, Fed, TxSound, FillsWhole, after}
 use Rattle.modulation.specs.declared.modulate.Wave.{Wave}
 use Rattle.sending.specs.declared.tx.Tx.{Tx}
 use Rattle.modulation.proofs.Slices.{drop-least, drop-take}
@@ -252,21 +252,6 @@ going-turn t l out pending w r upto written from n rest tail pending′ w′ r�
       so =
           so-turn out rest tail l written n count m m′ (g .size) lt (omega (arith, g .on .few)) c (p .is)
           ∙ subst (λ (z : List Float). soFar out l written n (modulator (t .rate) (t .tones) (keyerOf (t .bits) w) (stateOf r) z (t .amplitude)) ≡ filled (modulatorOf t) l) none (g .so);
-    }
-
-abbrev pub after : Tx → Wave → Resampler → List Float → ℕ → ℕ → ℕ → Tx
-after t w r pending from upto served =
-    record {
-      rate = t .rate;
-      tones = t .tones;
-      bits = t .bits;
-      wave = w;
-      resampler = r;
-      pending = pending;
-      from = from;
-      upto = upto;
-      amplitude = t .amplitude;
-      served = served;
     }
 
 pub going-end : (t : Tx) (l : ℕ) (out pending : List Float) (w : Wave) (r : Resampler) (upto written from n : ℕ) → TxSound t

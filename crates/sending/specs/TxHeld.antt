@@ -1,16 +1,21 @@
 -- How the code's `Tx` holds what specs/Tx.antt speaks of, and the invariant of its states. Assumes nothing.
 use Prim.Native.Nat.{ℕ, _+_, _*_, _≤_}
 use mathlib.Core.Path.{_≡_}
+use mathlib.Core.Bool.{Bool}
 use mathlib.Core.List.{List}
 use lib.Ieee.{Float}
 use Rattle.bitqueue.specs.Bits.{BitsHeld}
 use Rattle.resampling.specs.Resample.{State}
 use Rattle.resampling.specs.ResampleHeld.{stateOf}
+use Rattle.resampling.specs.declared.resample.Resampler.{Resampler}
+use Rattle.bell103.specs.declared.TonePair.{TonePair}
+use Rattle.modulation.specs.declared.modulate.Wave.{Wave}
 use Rattle.resampling.specs.Place.{Reached}
 use Rattle.sending.specs.Tx.{Sender, sender, filling, filled}
 use Rattle.refusal.specs.declared.Acceptance.{Acceptance}
 use Rattle.refusal.specs.declared.Acceptance.the-variants.{Accepted}
 use Rattle.sending.specs.declared.tx.Tx.{Tx}
+use Rattle.sending.specs.declared.tx.Filled.{Filled}
 use Rattle.modulation.specs.Modulator.{Modulator, modulator}
 use Rattle.modulation.specs.ModulatorHeld.{keyerOf, pendingIn, Rising, PendingHeld}
 
@@ -44,3 +49,45 @@ pub record FillsWhole (t : Tx) (n : ℕ) (out : List Float) (answer : Acceptance
   pub few : passes ≤ n + 2
   pub served : t′ .served ≡ t .served + n
   pub sound : TxSound t′
+
+-- the sender with this wave and resampler, with what is pending, and so many samples given
+abbrev pub after : Tx → Wave → Resampler → List Float → ℕ → ℕ → ℕ → Tx
+after t w r pending from upto served =
+    record {
+      rate = t .rate;
+      tones = t .tones;
+      bits = t .bits;
+      wave = w;
+      resampler = r;
+      pending = pending;
+      from = from;
+      upto = upto;
+      amplitude = t .amplitude;
+      served = served;
+    }
+
+-- ---- a slice at 8,000, where the resampler has no part
+-- what fills it
+pub record Parts : Type 0 where
+  pub bits : List Bool
+  pub tones : TonePair
+  pub wave : Wave
+  pub amplitude : Float
+  pub pending : List Float
+  pub from : ℕ
+  pub upto : ℕ
+
+abbrev pub partsFor : List Bool → TonePair → Wave → Float → List Float → ℕ → ℕ → Parts
+partsFor b t w a p from upto = record { bits = b; tones = t; wave = w; amplitude = a; pending = p; from = from; upto = upto }
+
+abbrev pub partsOf : Tx → Parts
+partsOf t = partsFor (t .bits) (t .tones) (t .wave) (t .amplitude) (t .pending) (t .from) (t .upto)
+
+-- the sender after n samples that moved so much
+abbrev pub afterFilled : Tx → List Float → Filled → ℕ → Tx
+afterFilled t pending f n = after t (f .wave) (t .resampler) pending (f .from) (f .upto) (t .served + n)
+
+-- a slice of n places filled whole for each sender at 8,000 that has these parts, whatever its resampler holds
+pub record FillsPlaces (p : Parts) (n : ℕ) (out pending : List Float) (f : Filled) : Type 0 where
+  pub whole : (t : Tx) → p ≡ partsOf t → TxSound t → t .rate ≡ 8000 → t .served + n ≤ 4294967296
+      → FillsWhole t n out Accepted (f .passes) (afterFilled t pending f n)

@@ -22,8 +22,10 @@ ghost use mathlib.Core.Bool.{not, false};
 ghost use Prim.Native.Nat.{_+_, _*_, _≤_, _<_};
 ghost use lib.ListN.{length};
 ghost use Rattle.refusal.specs.Refusals.{acceptanceOf, isAccepted, countOf, replyOf, rateRefused};
+ghost use Rattle.bitqueue.specs.Bits.{BitsHeld};
+ghost use Rattle.modulation.specs.ModulatorHeld.{PendingHeld};
 ghost use Rattle.sending.specs.Tx.{freshSender, made, newOf, readRefused, reading, readOf, adjusted, amplitudeRefused, amplitudeOf, pendingOf, durationOf};
-ghost use Rattle.sending.specs.TxHeld.{senderOf, TxSound, FillsWhole};
+ghost use Rattle.sending.specs.TxHeld.{senderOf, TxSound, FillsWhole, partsFor, FillsPlaces, afterFilled};
 
 pub struct Tx {
     pub rate: u32,
@@ -50,64 +52,95 @@ pub struct Reading {
     pub state: Tx,
 }
 
+// What a slice at 8,000 moves of the sender, and in how many passes it was filled.
+pub struct Filled {
+    pub wave: Wave,
+    pub from: usize,
+    pub upto: usize,
+    pub passes: usize,
+}
+
 // At a rate of 8,000 nothing is resampled: what is pending, then one pass, which makes a sample more than the slice has places for.
 // For the crates above too, which meet what it requires: no entry for hosts, who call `read`.
-pub fn fill_equal(t: Tx, out: &mut [f32]) -> Reading
+pub fn fill_places(
+    bits: &[bool; 4096],
+    tones: TonePair,
+    w: Wave,
+    a: f32,
+    pending: &mut [f32],
+    from: usize,
+    upto: usize,
+    out: &mut [f32],
+) -> Filled
+    requires { ⌜ BitsHeld (now bits) (w .head) (w .waiting) × PendingHeld (now pending) from upto × (length (now out) ≤ 1024) ⌝ }
+    ensures { λ r. ⌜ FillsPlaces (partsFor (now (bits .entry)) tones w a (now (pending .entry)) from upto) (length (now (out .entry))) (now (out .exit)) (now (pending .exit)) r ⌝ }
+{
+    let n = out.len();
+    let written = hand_over(&pending[from..upto], out);
+    if n <= written {
+        return Filled {
+            wave: w,
+            from: from + written,
+            upto,
+            passes: 1,
+        };
+    }
+    let last = equal_pass(bits, tones, w, a, pending, &mut out[written..]);
+    Filled {
+        wave: last,
+        from: 0,
+        upto: 1,
+        passes: 2,
+    }
+}
+
+// The sender after such a slice, of n samples.
+pub fn with_filled(t: Tx, pending: [f32; 64], f: Filled, n: usize) -> Tx
+    requires { ⌜ t .served + n ≤ 4294967296 ⌝ }
+    ensures { λ r. ⌜ r ≡ afterFilled t pending f n ⌝ }
+{
+    let tones = t.tones;
+    let bits = t.bits;
+    let resampler = t.resampler;
+    let wave = f.wave;
+    Tx {
+        rate: t.rate,
+        tones,
+        bits,
+        wave,
+        resampler,
+        pending,
+        from: f.from,
+        upto: f.upto,
+        amplitude: t.amplitude,
+        served: t.served + n as u64,
+    }
+}
+
+// A slice at 8,000.
+fn fill_equal(t: Tx, out: &mut [f32]) -> Reading
     requires { ⌜ TxSound t × (t .rate ≡ 8000) × (length (now out) ≤ 1024) × (t .served + length (now out) ≤ 4294967296) ⌝ }
     ensures { λ r. ⌜ FillsWhole t (length (now (out .entry))) (now (out .exit)) (r .answer) (r .passes) (r .state) ⌝ }
 {
     let bits = t.bits;
     let tones = t.tones;
     let w = t.wave;
-    let resampler = t.resampler;
     let mut pending = t.pending;
-    let from = t.from;
-    let upto = t.upto;
     let n = out.len();
-    let served = t.served + n as u64;
-    let written = hand_over(&pending[from..upto], out);
-    if n <= written {
-        let state = Tx {
-            rate: t.rate,
-            tones,
-            bits,
-            wave: w,
-            resampler,
-            pending,
-            from: from + written,
-            upto,
-            amplitude: t.amplitude,
-            served,
-        };
-        return Reading {
-            answer: Acceptance::Accepted,
-            passes: 1,
-            state,
-        };
-    }
-    let last = equal_pass(
+    let f = fill_places(
         &bits,
         tones,
         w,
         t.amplitude,
         &mut pending,
-        &mut out[written..],
+        t.from,
+        t.upto,
+        out,
     );
-    let state = Tx {
-        rate: t.rate,
-        tones,
-        bits,
-        wave: last,
-        resampler,
-        pending,
-        from: 0,
-        upto: 1,
-        amplitude: t.amplitude,
-        served,
-    };
+    let state = with_filled(t, pending, f, n);
     Reading {
         answer: Acceptance::Accepted,
-        passes: 2,
+        passes: f.passes,
         state,
     }
 }

@@ -15,20 +15,26 @@ smaller-requires c κs = search needs
 add-filled : tie.Need-add-filled
 add-filled c = search needs
 
-mul-fill-equal : tie.Need-mul-fill-equal
-mul-fill-equal c = search needs
+slice-aggregate-fill-places : tie.Need-slice-aggregate-fill-places
+slice-aggregate-fill-places c = search needs
 
-sub-fill-equal : tie.Need-sub-fill-equal
-sub-fill-equal c = search needs
+mul-fill-places : tie.Need-mul-fill-places
+mul-fill-places c = search needs
 
-part-fill-equal-start : tie.Need-part-fill-equal-start
-part-fill-equal-start c = search needs
+sub-fill-places : tie.Need-sub-fill-places
+sub-fill-places c = search needs
 
-part-fill-equal-end : tie.Need-part-fill-equal-end
-part-fill-equal-end c = search needs
+part-fill-places-start : tie.Need-part-fill-places-start
+part-fill-places-start c = search needs
 
-fill-equal-requires : tie.Need-fill-equal-requires
-fill-equal-requires c κs = search needs
+part-fill-places-end : tie.Need-part-fill-places-end
+part-fill-places-end c = search needs
+
+fill-places-requires : tie.Need-fill-places-requires
+fill-places-requires c κs = search needs
+
+with-filled-requires : tie.Need-with-filled-requires
+with-filled-requires c κs = search needs
 
 pending-requires : tie.Need-pending-requires
 pending-requires c κs = search needs
@@ -36,11 +42,8 @@ pending-requires c κs = search needs
 one-if-requires : tie.Need-one-if-requires
 one-if-requires c κs = search needs
 
-sub-tell-sent : tie.Need-sub-tell-sent
-sub-tell-sent c = search needs
-
 tell-sent-requires : tie.Need-tell-sent-requires
-tell-sent-requires c κs = search needs
+tell-sent-requires c κs = c .before .before .before .before .before .before .before .before .before .before .before .before .before .before .before .before .before .before .before .pre .3
 
 same-length : tie.Need-same-length
 same-length c = search needs
@@ -50,12 +53,13 @@ same-length-2 c = search needs
 
 returns : tie.Need-returns
 returns c =
-    let s = c .before .before .before .before .before .before .before .before .before .before .before .before .before .before .before in
-    let k = c .before .before .before .before .before .before .before .before .before .before .before .smaller .ensures in
-    let f = c .before .before .before .before .before .before .before .before .before .fill-equal in
+    let s = c .before .before .before .before .before .before .before .before .before .before .before .before .before .before .before .before .before .before .before .before .before .before in
+    let k = c .before .before .before .before .before .before .before .before .before .before .before .before .before .before .before .before .before .before .smaller .ensures in
+    let f = c .before .before .before .before .before .before .before .before .before .before .fill-places in
+    let t = c .before .before .before .before .before .before .with-filled in
     let long = c .before .before .before .before .before .before .before .before .samples .given .1 in
-    let waits-is = c .before .before .before .before .one-if .ensures ∙ ap bit (c .before .before .before .before .before .pending .ensures) in
-    plain-steps (s .args .p) (s .args .n) _ (s .args .samples .now) (k .0) (k .1) (k .2) (s .pre .0) _ _ _ _ (f .ensures) long _ _ _ _ waits-is (c .before .before .tell-sent .ensures)
+    let waits-is = c .before .before .before .before .one-if .ensures ∙ ap bit (c .before .before .before .before .before .pending4 .ensures) in
+    plain-steps (s .args .p) (s .args .n) _ (s .args .samples .now) (k .0) (k .1) (k .2) (s .pre .0) (s .pre .1) (f .result) _ _ (f .ensures) _ (t .ensures) long _ _ _ _ waits-is (c .before .before .tell-sent .ensures)
 
 pub plain-read-spec : {M : Type 1} → statement M
 plain-read-spec =
@@ -64,14 +68,15 @@ plain-read-spec =
     sub-smaller
     smaller-requires
     add-filled
-    mul-fill-equal
-    sub-fill-equal
-    part-fill-equal-start
-    part-fill-equal-end
-    fill-equal-requires
+    slice-aggregate-fill-places
+    mul-fill-places
+    sub-fill-places
+    part-fill-places-start
+    part-fill-places-end
+    fill-places-requires
+    with-filled-requires
     pending-requires
     one-if-requires
-    sub-tell-sent
     tell-sent-requires
     same-length
     same-length-2
