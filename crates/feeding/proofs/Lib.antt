@@ -1,2 +1,3 @@
--- Laws that more than one proof of `feeding` cites.
+-- Laws that the proofs of `feeding` cite.
 pub mod Running
+pub mod Rising

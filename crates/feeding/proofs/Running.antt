@@ -6,13 +6,15 @@ use mathlib.Core.List.{List, [], _∷_, _++_, append-nil}
 use native.Mathlib.Nat.{add-zero, add-assoc}
 use native.Mathlib.Numerals.{add-one}
 use native.Mathlib.Omega.{arith}
-use lib.ListN.{length, getD, set, take, drop, length-append, length-drop, length-set, drop-of-length-le}
-use lib.Seq.{sets, length-sets, take-length, drop-cons}
+use lib.ListN.{length, getD, set, take, drop, length-append, length-set, drop-of-length-le}
+use lib.Seq.{sets, length-sets, drop-cons}
 use lib.Ieee.{Float, nan}
-use Rattle.numeric.specs.F64.{_⊕_, if_then_else_}
-use Rattle.feeding.specs.Flow.{Filter, Flow, Ran, ran, wants, between, windowed, pushed, outWith, emitted, drained, fed}
+use Rattle.numeric.specs.F64.{if_then_else_}
+use Rattle.feeding.specs.Flow.{Filter, Flow, Ran, ran, wants, windowed, pushed, outWith, emitted, drained, fed}
+use Rattle.feeding.specs.FlowLaws.{drained-length}
 use Rattle.filtering.specs.Filter.{filtered, newest}
 use Rattle.filtering.specs.FilterHeld.{ringNext, historyOf, Filtered}
+use Rattle.filtering.proofs.Samples.{drop-two}
 use Rattle.feeding.specs.FlowHeld.{flowOf, filterIn, Run, run, into, drainedInto, fedInto}
 use Rattle.feeding.specs.declared.sample.Moving.{Moving}
 
@@ -59,6 +61,13 @@ module _ (f : Filter) (s : Flow) (out : List Float) (at : ℕ) where
       shift : (i n : ℕ) → i + suc n ≡ suc i + n
       shift i n = omega arith
 
+  -- what is drained stays within the output
+  pub drain-within : (t : Run) → t ≡ drainedInto f (run s out at) → at ≤ length out → t .at ≤ length (t .out)
+  unfolding drainedInto
+  drain-within t e h =
+      let k = drained-length f (length out - at) s in
+      rw (e, length-sets) (omega arith)
+
 -- ---- one input sample
 module _ (f : Filter) (s : Flow) (out : List Float) (at : ℕ) (x : Float) (xs : List Float) where
   -- the outputs that it makes ready
@@ -78,7 +87,7 @@ module _ (f : Filter) (s : Flow) (out : List Float) (at : ℕ) (x : Float) (xs :
       less a b c = omega arith
 
   -- it is the last
-  alone : fedInto f (x ∷ []) (run s out at) ≡ into out at ready
+  pub alone : fedInto f (x ∷ []) (run s out at) ≡ into out at ready
   unfolding fedInto fed
   alone = ap (into out at) (same (wants (ready .flow)))
     where
@@ -138,16 +147,11 @@ module _ (f : Filter) (s : Flow) (out : List Float) (at : ℕ) (xs : List Float)
 -- the same of the samples at i and after it, two at a time
 module _ (f : Filter) (s : Flow) (out : List Float) (at : ℕ) (xs : List Float) (i : ℕ) (t : Run) (h : i + 1 < length xs)
     (e : t ≡ fedInto f (getD xs i nan ∷ getD xs (i + 1) nan ∷ []) (run s out at)) where
-  two : drop i xs ≡ getD xs i nan ∷ getD xs (i + 1) nan ∷ drop (i + 2) xs
-  two =
-      let k : suc (i + 1) ≡ i + 2 = omega arith in
-      drop-cons xs i nan (omega arith) ∙ ap (λ (l : List Float). getD xs i nan ∷ l) (ap (λ (j : ℕ). drop j xs) (sym (add-one i)) ∙ drop-cons xs (i + 1) nan h ∙ ap (λ (j : ℕ). getD xs (i + 1) nan ∷ drop j xs) k)
-
   pub pair-halt : wants (t .flow) ≡ true → fedInto f (drop i xs) (run s out at) ≡ t
-  pair-halt w = rw two (fed-parts f (getD xs i nan) (getD xs (i + 1) nan ∷ []) (drop (i + 2) xs) (run s out at) true (sym (ap (λ (u : Run). wants (u .flow)) e) ∙ w) ∙ sym e)
+  pair-halt w = rw (drop-two xs i h) (fed-parts f (getD xs i nan) (getD xs (i + 1) nan ∷ []) (drop (i + 2) xs) (run s out at) true (sym (ap (λ (u : Run). wants (u .flow)) e) ∙ w) ∙ sym e)
 
   pub pair-turn : wants (t .flow) ≡ false → fedInto f (drop i xs) (run s out at) ≡ fedInto f (drop (i + 2) xs) t
-  pair-turn w = rw (two, e) (fed-parts f (getD xs i nan) (getD xs (i + 1) nan ∷ []) (drop (i + 2) xs) (run s out at) false (sym (ap (λ (u : Run). wants (u .flow)) e) ∙ w))
+  pair-turn w = rw (drop-two xs i h, e) (fed-parts f (getD xs i nan) (getD xs (i + 1) nan ∷ []) (drop (i + 2) xs) (run s out at) false (sym (ap (λ (u : Run). wants (u .flow)) e) ∙ w))
 
 -- two samples alone: t is the run after the first's outputs, and u after the second's
 module _ (f : Filter) (s : Flow) (out : List Float) (at : ℕ) (x z : Float) (t : Run) (e : t ≡ into out at (drained f (length out - at) (pushed f x s))) where
@@ -157,59 +161,23 @@ module _ (f : Filter) (s : Flow) (out : List Float) (at : ℕ) (x z : Float) (t 
   pub both-taken : (u : Run) → wants (t .flow) ≡ false → u ≡ into (t .out) (t .at) (drained f (length (t .out) - t .at) (pushed f z (t .flow))) → u ≡ fedInto f (x ∷ z ∷ []) (run s out at)
   both-taken u w d = d ∙ sym (goes-on f s out at x (z ∷ []) t e w ∙ alone f (t .flow) (t .out) (t .at) z [])
 
--- the part of the input from i on
-pub fed-rest : (f : Filter) (r : Run) (xs : List Float) (i : ℕ) (t u : Run) → t ≡ fedInto f (take (length xs - i) (drop i xs)) r → fedInto f (drop i xs) r ≡ u → t ≡ u
-fed-rest f r xs i t u e g = e ∙ ap (λ (l : List Float). fedInto f l r) (rw (← length-drop) (take-length (drop i xs))) ∙ g
+-- an odd last sample, and the end
+pub fed-last : (f : Filter) (r : Run) (xs : List Float) (i : ℕ) → i < length xs → length xs ≤ i + 1 → fedInto f (drop i xs) r ≡ fedInto f (getD xs i nan ∷ []) r
+fed-last f r xs i h l = rw (drop-cons xs i nan h, drop-of-length-le xs {i = suc i} (omega arith))
 
 pub fed-done : (f : Filter) (s : Flow) (out : List Float) (at : ℕ) (xs : List Float) (i : ℕ) → length xs ≤ i → fedInto f (drop i xs) (run s out at) ≡ run s out at
 unfolding fedInto fed
 fed-done f s out at xs i h = rw (drop-of-length-le xs h) (run-nil s out at)
 
--- ---- going down in rate, the outputs leave the filter's history as it is
-emitted-history : (f : Filter) (s : Flow) → f .decimating ≡ true → emitted f s .flow .history ≡ s .history
-unfolding emitted
-emitted-history f s e = rw e
-
-history-kept : (f : Filter) (room : ℕ) (s : Flow) → f .decimating ≡ true → drained f room s .flow .history ≡ s .history
-unfolding drained
-history-kept f zero s e = refl
-history-kept f (suc room) s e = by (wants s) (history-kept f room (emitted f s .flow) e ∙ emitted-history f s e)
-  where
-    d : Ran
-    d = drained f room (emitted f s .flow)
-
-    by : (b : Bool) → d .flow .history ≡ s .history → (if b then ran (emitted f s .y ∷ d .out) (d .flow) else ran [] s) .flow .history ≡ s .history
-    by true h = h
-    by false h = refl
-
--- so that the filter's output for the next sample is still what it was
-pub still-ahead : (f : Filter) (s : Flow) (out : List Float) (at : ℕ) (t : Run) (z y : Float) → f .decimating ≡ true → t ≡ drainedInto f (run s out at)
-    → y ≡ filtered (f .taps) (newest z (s .history)) → windowed (t .flow) (newest z (t .flow .history)) y ≡ pushed f z (t .flow)
-unfolding drainedInto pushed
-still-ahead f s out at t z y e d a =
-    let k : t .flow .history ≡ s .history = ap (λ (r : Run). r .flow .history) d ∙ history-kept f (length out - at) s e in
-    rw (e, k, a)
-
--- ---- one sample in and one sample out, over the code's ring and window
-module _ (n : ℕ) (taps ring ring′ : List Float) (m : Moving) where
-  abbrev on : ℕ → Float → Moving
-  on p step = record { «fir_pos» = p; «herm_hist» = m .«herm_hist»; «frac_pos» = m .«frac_pos» ⊕ step; «n_pushed» = m .«n_pushed» }
-
-  pub pushed-down : (d : Bool) (step x y : Float) (p : ℕ) → d ≡ true → Filtered n (m .«fir_pos») taps x ring ring′ y → p ≡ ringNext n (m .«fir_pos»)
-      → windowed (flowOf n ring′ m) (historyOf n p ring′) y ≡ pushed (filterIn n taps d step) x (flowOf n ring m)
+-- ---- going down in rate: a sample in, over the code's ring
+module _ (n : ℕ) (taps ring : List Float) (m : Moving) (step x y : Float) (p : ℕ) where
+  pub pushed-down : (ring′ : List Float) → Filtered n (m .«fir_pos») taps x ring ring′ y → p ≡ ringNext n (m .«fir_pos»)
+      → windowed (flowOf n ring′ m) (historyOf n p ring′) y ≡ pushed (filterIn n taps true step) x (flowOf n ring m)
   unfolding flowOf pushed
-  pushed-down d step x y p e f g = rw (e, g, f .history, f .value)
+  pushed-down ring′ f g = rw (g, f .history, f .value)
 
-  pub pushed-up : (d : Bool) (step x : Float) → d ≡ false → windowed (flowOf n ring m) (historyOf n (m .«fir_pos») ring) x ≡ pushed (filterIn n taps d step) x (flowOf n ring m)
+  -- the filter's output for it is known from the time when p was the place
+  pub pushed-known : m .«fir_pos» ≡ p → y ≡ filtered (take n taps) (newest x (historyOf n p ring))
+      → windowed (flowOf n ring m) (newest x (historyOf n (m .«fir_pos») ring)) y ≡ pushed (filterIn n taps true step) x (flowOf n ring m)
   unfolding flowOf pushed
-  pushed-up d step x e = rw e
-
-  pub emitted-down : (d : Bool) (step y : Float) → d ≡ true → y ≡ between (flowOf n ring m)
-      → outWith y (flowOf n ring (on (m .«fir_pos») step)) ≡ emitted (filterIn n taps d step) (flowOf n ring m)
-  unfolding flowOf emitted
-  emitted-down d step y e g = rw (e, g)
-
-  pub emitted-up : (d : Bool) (step y z : Float) (p : ℕ) → d ≡ false → y ≡ between (flowOf n ring m) → Filtered n (m .«fir_pos») taps y ring ring′ z
-      → p ≡ ringNext n (m .«fir_pos») → outWith z (flowOf n ring′ (on p step)) ≡ emitted (filterIn n taps d step) (flowOf n ring m)
-  unfolding flowOf emitted
-  emitted-up d step y z p e g f q = rw (e, q, f .history, f .value, g)
+  pushed-known g e = rw (g, e)

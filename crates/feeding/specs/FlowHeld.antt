@@ -1,10 +1,11 @@
 -- How the code holds what specs/Flow.antt speaks of, and a run that writes into a lent output. Assumes nothing.
 use Prim.Native.Nat.{ℕ, _+_, _-_}
 use mathlib.Core.Bool.{Bool}
-use mathlib.Core.List.{List}
-use lib.ListN.{length, take}
+use mathlib.Core.List.{List, _++_}
+use lib.ListN.{length, take, drop}
 use lib.Seq.{sets}
 use lib.Ieee.{Float}
+use Rattle.filtering.specs.Filter.{filteredAll, historyAfter}
 use Rattle.filtering.specs.FilterHeld.{historyOf, windowOf}
 use Rattle.feeding.specs.Flow.{Filter, Flow, Ran, flow, drained, fed}
 use Rattle.feeding.specs.declared.sample.Moving.{Moving}
@@ -34,3 +35,13 @@ drainedInto f t = into (t .out) (t .at) (drained f (length (t .out) - t .at) (t 
 
 unfoldable pub fedInto : Filter → List Float → Run → Run
 fedInto f xs t = into (t .out) (t .at) (fed f (length (t .out) - t .at) xs (t .flow))
+
+-- ---- going up in rate
+-- what moves, with another history
+abbrev pub withHistory : List Float → Flow → Flow
+withHistory h s = flow h (s .window) (s .place) (s .count)
+
+-- a run whose samples did not pass the filter yet, and the same once they did, from history h on
+unfoldable pub throughFilter : List Float → List Float → Run → Run
+throughFilter taps h t =
+    run (withHistory (historyAfter h (take (t .at) (t .out))) (t .flow)) (filteredAll taps h (take (t .at) (t .out)) ++ drop (t .at) (t .out)) (t .at)

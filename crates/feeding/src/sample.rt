@@ -24,7 +24,7 @@ pub struct Moving {
 }
 
 // A sample into the window, where the next one for the filter goes to the place `next`.
-fn slide(m: Moving, next: usize, y: f64) -> Moving
+pub fn slide(m: Moving, next: usize, y: f64) -> Moving
     ensures { λ r. ⌜ ((n : ℕ) → (ring : List Float) → flowOf n ring r ≡ windowed (flowOf n ring m) (historyOf n next ring) y) ⌝ }
     ensures { λ r. ⌜ r .«fir_pos» ≡ next ⌝ }
 {
@@ -38,26 +38,22 @@ fn slide(m: Moving, next: usize, y: f64) -> Moving
     }
 }
 
-// One input sample: through the filter first where the rate goes down, and into the window.
+// One input sample where the rate goes down: through the filter, and into the window.
 pub fn push_one(
     taps: &[f64; MAX_TAPS],
     hist: &mut [f64; MAX_TAPS],
     n: usize,
-    decimating: bool,
     m: Moving,
     x: f64,
 ) -> Moving
     requires { ⌜ Placed n (m .«fir_pos») (now taps) (now hist) ⌝ }
-    ensures { λ r. ⌜ ((step : Float) → flowOf n (now (hist .exit)) r ≡ pushed (filterIn n (now (taps .entry)) decimating step) x (flowOf n (now (hist .entry)) m)) ⌝ }
+    ensures { λ r. ⌜ ((step : Float) → flowOf n (now (hist .exit)) r ≡ pushed (filterIn n (now (taps .entry)) true step) x (flowOf n (now (hist .entry)) m)) ⌝ }
     ensures { λ r. ⌜ Placed n (r .«fir_pos») (now (taps .entry)) (now (hist .exit)) ⌝ }
 {
     let pos = m.fir_pos;
-    if decimating {
-        let y = fir_push(taps, hist, n, pos, x);
-        let next = ring_next(n, pos);
-        return slide(m, next, y);
-    }
-    slide(m, pos, x)
+    let y = fir_push(taps, hist, n, pos, x);
+    let next = ring_next(n, pos);
+    slide(m, next, y)
 }
 
 // What moved, and the filter's output for the sample after.
@@ -109,42 +105,20 @@ pub struct Emitted {
     pub moving: Moving,
 }
 
-// One output sample: between the window's middle samples, and through the filter last where the rate goes up.
-pub fn emit(
-    taps: &[f64; MAX_TAPS],
-    hist: &mut [f64; MAX_TAPS],
-    n: usize,
-    decimating: bool,
-    step: f64,
-    m: Moving,
-) -> Emitted
-    requires { ⌜ Placed n (m .«fir_pos») (now taps) (now hist) ⌝ }
-    ensures { λ r. ⌜ outWith (r .y) (flowOf n (now (hist .exit)) (r .moving)) ≡ emitted (filterIn n (now (taps .entry)) decimating step) (flowOf n (now (hist .entry)) m) ⌝ }
-    ensures { λ r. ⌜ Placed n (r .moving .«fir_pos») (now (taps .entry)) (now (hist .exit)) ⌝ }
+// One output sample: between the window's middle samples. Where the rate goes up, it passes the filter later.
+pub fn emit(step: f64, m: Moving) -> Emitted
+    ensures { λ r. ⌜ ((n : ℕ) → (taps ring : List Float) → outWith (r .y) (flowOf n ring (r .moving)) ≡ emitted (filterIn n taps true step) (flowOf n ring m)) ⌝ }
+    ensures { λ r. ⌜ r .moving .«fir_pos» ≡ m .«fir_pos» ⌝ }
 {
     let w = m.herm_hist;
-    let pos = m.fir_pos;
     let k_base = m.n_pushed - 3.0;
     let t = m.frac_pos - k_base;
     let y = hermite(w, t);
-    let frac_pos = m.frac_pos + step;
-    if decimating {
-        let moving = Moving {
-            fir_pos: pos,
-            herm_hist: w,
-            frac_pos,
-            n_pushed: m.n_pushed,
-        };
-        Emitted { y, moving }
-    } else {
-        let z = fir_push(taps, hist, n, pos, y);
-        let next = ring_next(n, pos);
-        let moving = Moving {
-            fir_pos: next,
-            herm_hist: w,
-            frac_pos,
-            n_pushed: m.n_pushed,
-        };
-        Emitted { y: z, moving }
-    }
+    let moving = Moving {
+        fir_pos: m.fir_pos,
+        herm_hist: w,
+        frac_pos: m.frac_pos + step,
+        n_pushed: m.n_pushed,
+    };
+    Emitted { y, moving }
 }

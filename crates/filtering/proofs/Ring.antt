@@ -40,6 +40,10 @@ back-next n pos h = ⊎-elim at-end on (eq-or-lt-of-le h)
     on : suc pos < n → ringBack n (if leb n (pos + 1) then 0 else pos + 1) ≡ pos
     on l = rw (lt-leb n (pos + 1) (omega arith)) (ap (ringBack n) (add-one pos) ∙ back-suc n pos)
 
+pub next-within : (n pos : ℕ) → pos < n → ringNext n pos < n
+unfolding ringNext
+next-within n pos h = ⊎-elim (λ e. rw (le-leb n (pos + 1) (omega arith)) (omega arith)) (λ l. rw (lt-leb n (pos + 1) (omega arith)) (omega arith)) (eq-or-lt-of-le h)
+
 -- the history reads back from the place before the next one's
 pub history-next : (n pos : ℕ) (ring : List Float) → pos < n → historyOf n (ringNext n pos) ring ≡ walk n n pos ring
 unfolding historyOf
@@ -113,6 +117,14 @@ went-in n pos taps ring x y p e =
       value = e ∙ ap (filtered (take n taps)) (walk-stored n pos x ring (p .within) l);
       long = length-set ring pos x ∙ p .ring-long;
     }
+
+-- one more after it, whose sum was taken over what the ring held before
+pub went-after : (n pos : ℕ) (taps ring : List Float) (x y : Float) → pos < n → Placed n (ringNext n pos) taps ring
+    → y ≡ filtered (take n taps) (newest x (walk n n pos ring)) → Filtered n (ringNext n pos) taps x ring (set ring (ringNext n pos) x) y
+went-after n pos taps ring x y h p e =
+    let l : n ≤ length ring = omega (arith, p .high, p .ring-long) in
+    let g = walk-stored n (ringNext n pos) x ring (p .within) l ∙ ap (newest x) (history-next n pos ring h) in
+    went-in n (ringNext n pos) taps ring x y p (e ∙ ap (filtered (take n taps)) (sym g))
 
 -- ---- an empty ring
 back-within : (n idx : ℕ) → idx < n → ringBack n idx < n

@@ -19,6 +19,15 @@ filtered taps h = sumFrom zero64 taps h
 unfoldable pub newest : Float → List Float → List Float
 newest x h = take (length h) (x ∷ h)
 
+-- a list of samples through the filter, oldest first, from history h on: what comes out, and the history after them
+unfoldable pub filteredAll : List Float → List Float → List Float → List Float
+filteredAll taps h [] = []
+filteredAll taps h (x ∷ xs) = filtered taps (newest x h) ∷ filteredAll taps (newest x h) xs
+
+unfoldable pub historyAfter : List Float → List Float → List Float
+historyAfter h [] = h
+historyAfter h (x ∷ xs) = historyAfter (newest x h) xs
+
 -- ---- the interpolation
 -- the four newest samples before the interpolation, oldest first
 pub record Window : Type 0 where

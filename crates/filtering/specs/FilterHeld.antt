@@ -6,7 +6,7 @@ use lib.ListN.{length, getD, take}
 use lib.Dec.{leb, eqb}
 use lib.Ieee.{Float, nan}
 use Rattle.numeric.specs.F64.{if_then_else_}
-use Rattle.filtering.specs.Filter.{Window, filtered, newest}
+use Rattle.filtering.specs.Filter.{Window, filtered, newest, filteredAll, historyAfter}
 
 -- the place before idx in a ring of n, and the one after pos
 unfoldable pub ringBack : ℕ → ℕ → ℕ
@@ -39,3 +39,9 @@ pub record Filtered (n pos : ℕ) (taps : List Float) (x : Float) (ring ring′ 
   pub history : historyOf n (ringNext n pos) ring′ ≡ newest x (historyOf n pos ring)
   pub value : y ≡ filtered (take n taps) (newest x (historyOf n pos ring))
   pub long : length ring′ ≡ 373
+
+-- samples xs went into the ring from pos on and through the filter, which gave ys; the next goes to pos′
+pub record AllFiltered (n pos pos′ : ℕ) (taps xs ring ring′ ys : List Float) : Type 0 where
+  pub history : historyOf n pos′ ring′ ≡ historyAfter (historyOf n pos ring) xs
+  pub values : ys ≡ filteredAll (take n taps) (historyOf n pos ring) xs
+  pub placed : Placed n pos′ taps ring′

@@ -1,10 +1,11 @@
 // The filter: sums over a ring of the newest samples.
 use crate::design::MAX_TAPS;
 ghost use mathlib.Core.Path.{_≡_};
+ghost use mathlib.Core.List.{[], _∷_};
 ghost use Prim.Native.Nat.{_<_};
 ghost use lib.ListN.{take};
 ghost use Rattle.filtering.specs.Filter.{filtered, newest};
-ghost use Rattle.filtering.specs.FilterHeld.{ringBack, ringNext, walk, Placed, Filtered};
+ghost use Rattle.filtering.specs.FilterHeld.{ringBack, ringNext, walk, Placed, Filtered, AllFiltered};
 
 fn ring_back(n: usize, idx: usize) -> usize
     requires { ⌜ idx < n ⌝ }
@@ -84,4 +85,50 @@ pub fn fir_push(
 {
     hist[pos] = x;
     fir_sum(taps, hist, n, pos)
+}
+
+// Two samples through the filter: x goes to pos, and `later` to the place after.
+fn fir_push_two(
+    taps: &[f64; MAX_TAPS],
+    hist: &mut [f64; MAX_TAPS],
+    n: usize,
+    pos: usize,
+    x: f64,
+    later: f64,
+) -> Two
+    requires { ⌜ Placed n pos (now taps) (now hist) ⌝ }
+    ensures { λ r. ⌜ AllFiltered n pos (ringNext n (ringNext n pos)) (now (taps .entry)) (x ∷ later ∷ []) (now (hist .entry)) (now (hist .exit)) (r .first ∷ r .second ∷ []) ⌝ }
+{
+    hist[pos] = x;
+    let y = fir_sums(taps, hist, n, pos, later);
+    let next = ring_next(n, pos);
+    hist[next] = later;
+    y
+}
+
+// Every sample through the filter, two at a time, and each output where its sample was. Answers the place of the next sample.
+pub fn filter_all(
+    taps: &[f64; MAX_TAPS],
+    hist: &mut [f64; MAX_TAPS],
+    n: usize,
+    pos: usize,
+    samples: &mut [f64],
+) -> usize
+    requires { ⌜ Placed n pos (now taps) (now hist) ⌝ }
+    ensures { λ r. ⌜ AllFiltered n pos r (now (taps .entry)) (now (samples .entry)) (now (hist .entry)) (now (hist .exit)) (now (samples .exit)) ⌝ }
+{
+    let mut place = pos;
+    let mut i = 0;
+    while i + 1 < samples.len() {
+        let y = fir_push_two(taps, hist, n, place, samples[i], samples[i + 1]);
+        samples[i] = y.first;
+        samples[i + 1] = y.second;
+        place = ring_next(n, ring_next(n, place));
+        i += 2;
+    }
+    if i < samples.len() {
+        samples[i] = fir_push(taps, hist, n, place, samples[i]);
+        return ring_next(n, place);
+    }
+    place
 }

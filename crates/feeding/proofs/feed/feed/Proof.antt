@@ -12,16 +12,16 @@ same-length c = search needs
 returns : tie.Need-returns
 returns c = rw (c .before .before .before .before .before .if1 .taken) (c .before .before .feed-pairs .ensures)
 
-feed-singly-requires : tie.Need-feed-singly-requires
-feed-singly-requires c κs = search needs
+feed-rising-requires : tie.Need-feed-rising-requires
+feed-rising-requires c κs = search needs
 
 same-length-2 : tie.Need-same-length-2
 same-length-2 c = search needs
 
 returns-2 : tie.Need-returns-2
-returns-2 c = search needs
+returns-2 c = rw (c .before .before .before .before .before .if1 .left) (c .before .before .feed-rising .ensures)
 
 pub feed-spec : {M : Type 1} → statement M
 feed-spec =
     tie.close
-    (tie.spec feed-pairs-requires same-length returns feed-singly-requires same-length-2 returns-2)
+    (tie.spec feed-pairs-requires same-length returns feed-rising-requires same-length-2 returns-2)

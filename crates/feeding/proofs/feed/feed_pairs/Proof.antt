@@ -4,7 +4,7 @@ use Prim.Native.Nat.{_-_, _≤_}
 use mathlib.Core.Bool.{true}
 use mathlib.Core.Path.{_≡_, refl, sym, _∙_}
 use lib.ListN.{length, drop}
-use Rattle.feeding.proofs.Running.{pair-turn, pair-halt, fed-rest}
+use Rattle.feeding.proofs.Running.{pair-turn, pair-halt, fed-last, fed-done}
 use Rattle.feeding.specs.Flow.{wants}
 use Rattle.feeding.specs.FlowHeld.{flowOf, filterIn, run, fedInto}
 use Rattle.filtering.specs.FilterHeld.{Placed}
@@ -69,29 +69,31 @@ loop-again c =
     let t = c .before .before .before .before .before .before .before .before .before .before .before .loop-test .taken in
     (sym (pair-turn _ _ _ _ _ _ _ t (f .0) (c .if1 .left)) ∙ l .inv .0, f .1, search needs, omega (arith, t))
 
-mul-feed-singly : tie.Need-mul-feed-singly Inv-loop μ-loop
-mul-feed-singly c = search needs
+mul-feed-one : tie.Need-mul-feed-one Inv-loop μ-loop
+mul-feed-one c = search needs
 
-sub-feed-singly : tie.Need-sub-feed-singly Inv-loop μ-loop
-sub-feed-singly c = search needs
+shared-slice-read-feed-one : tie.Need-shared-slice-read-feed-one Inv-loop μ-loop
+shared-slice-read-feed-one c = search needs
 
-part-feed-singly-start : tie.Need-part-feed-singly-start Inv-loop μ-loop
-part-feed-singly-start c = search needs
-
-part-feed-singly-end : tie.Need-part-feed-singly-end Inv-loop μ-loop
-part-feed-singly-end c = search needs
-
-feed-singly-requires : tie.Need-feed-singly-requires Inv-loop μ-loop
-feed-singly-requires c κs = c .before .before .before .before .loop .inv .1
+feed-one-requires : tie.Need-feed-one-requires Inv-loop μ-loop
+feed-one-requires c κs = c .before .before .before .before .before .loop .inv .1
 
 same-length-2 : tie.Need-same-length-2 Inv-loop μ-loop
 same-length-2 c = search needs
 
 returns-2 : tie.Need-returns-2 Inv-loop μ-loop
 returns-2 c =
-    let l = c .before .before .before .before .before .before .before .loop in
-    let g = c .before .before .feed-singly .ensures in
-    (fed-rest _ _ (c .before .before .before .before .before .before .before .before .before .before .args .input .now) (l .i) _ _ (g .0) (l .inv .0), g .1)
+    let l = c .before .before .before .before .before .before .before .before .loop in
+    let g = c .before .before .feed-one .ensures in
+    (g .0 ∙ sym (fed-last _ _ _ _ (c .before .before .before .before .before .before .if2 .taken) (c .before .before .before .before .before .before .before .loop-test .left)) ∙ l .inv .0, g .1)
+
+same-length-3 : tie.Need-same-length-3 Inv-loop μ-loop
+same-length-3 c = search needs
+
+returns-3 : tie.Need-returns-3 Inv-loop μ-loop
+returns-3 c =
+    let l = c .before .before .loop in
+    (sym (fed-done _ _ _ _ _ _ (c .if2 .left)) ∙ l .inv .0, l .inv .1)
 
 pub feed-pairs-spec : {M : Type 1} → statement M
 feed-pairs-spec =
@@ -112,10 +114,10 @@ feed-pairs-spec =
     add-i
     loop-less
     loop-again
-    mul-feed-singly
-    sub-feed-singly
-    part-feed-singly-start
-    part-feed-singly-end
-    feed-singly-requires
+    mul-feed-one
+    shared-slice-read-feed-one
+    feed-one-requires
     same-length-2
-    returns-2)
+    returns-2
+    same-length-3
+    returns-3)

@@ -1,6 +1,6 @@
 -- `feed::feed_two` meets its contract: the outputs of the first sample leave the history as it is, so what the filter gave for the second is right when it goes in. Assumes nothing.
-use mathlib.Core.Path.{refl, _∙_}
-use Rattle.feeding.proofs.Running.{first-only, both-taken, drained-from, still-ahead}
+use mathlib.Core.Path.{_∙_}
+use Rattle.feeding.proofs.Running.{first-only, both-taken, drained-from, pushed-known}
 use Rattle.feeding.specs.Flow.{wants}
 use Rattle.feeding.specs.FlowHeld.{flowOf}
 use borrow.Author.Needs.{needs}
@@ -19,21 +19,19 @@ same-length c = search needs
 returns : tie.Need-returns
 unfolding wants flowOf
 returns c =
-    let s = c .before .before .before .before .before .before .before .before .before .before .before .before in
-    let p = c .before .before .before .before .before .before .before .before .before .push-ahead .ensures in
+    let s = c .before .before .before .before .before .before .before .before .before .before .before in
+    let p = c .before .before .before .before .before .before .before .before .push-ahead .ensures in
     let d = c .before .before .before .before .before .before .drain .ensures in
-    (first-only _ _ _ _ _ _ _ (drained-from _ _ _ _ _ _ _ (p .0 (s .args .step)) (d .0)) (c .if1 .taken), d .1)
+    (first-only _ _ _ _ _ _ _ (drained-from _ _ _ _ _ _ _ (p .0 (s .args .step)) (d .0 _ _ _)) (c .if1 .taken), rw (d .1) (p .1 .0))
 
 push-known-requires : tie.Need-push-known-requires
 push-known-requires c κs =
-    let d = c .before .before .before .before .before .before .before .drain .ensures .1 in
-    (d .within, d .high, d .ring-long)
+    let p = c .before .before .before .before .before .before .before .before .before .push-ahead .ensures .1 .0 in
+    let d = c .before .before .before .before .before .before .before .drain .ensures in
+    (rw (d .1) (p .within), p .high, p .ring-long)
 
 drain-requires-2 : tie.Need-drain-requires-2
-drain-requires-2 c κs =
-    let d = c .before .before .before .before .before .before .before .before .before .before .drain .ensures .1 in
-    let k = c .before .before .push-known .ensures in
-    record { within = k .1 .0; high = d .high; taps-long = d .taps-long; ring-long = k .1 .1 }
+drain-requires-2 c κs = search needs
 
 same-length-2 : tie.Need-same-length-2
 same-length-2 c = search needs
@@ -41,14 +39,16 @@ same-length-2 c = search needs
 returns-2 : tie.Need-returns-2
 unfolding wants flowOf
 returns-2 c =
-    let s = c .before .before .before .before .before .before .before .before .before .before .before .before .before .before .before .before .before .before .before in
-    let p = c .before .before .before .before .before .before .before .before .before .before .before .before .before .before .before .before .push-ahead .ensures in
-    let d = c .before .before .before .before .before .before .before .before .before .before .before .before .before .drain .ensures in
-    let k = c .before .before .before .before .before .push-known .ensures in
+    let s = c .before .before .before .before .before .before .before .before .before .before .before .before .before .before .before .before .before in
+    let p = c .before .before .before .before .before .before .before .before .before .before .before .before .before .before .push-ahead .ensures in
+    let d = c .before .before .before .before .before .before .before .before .before .before .before .before .drain in
+    let k = c .before .before .before .before .push-known .ensures in
     let u = c .before .before .drain2 .ensures in
-    let e = drained-from _ _ _ _ _ _ _ (p .0 (s .args .step)) (d .0) in
-    let g = k .0 ∙ still-ahead _ _ _ _ _ _ _ refl (d .0) (p .1 .1) in
-    (both-taken _ _ _ _ _ _ _ e _ (c .before .before .before .before .before .before .before .if1 .left) (drained-from _ _ _ _ _ _ _ g (u .0)), u .1)
+    let e = drained-from _ _ _ _ _ _ _ (p .0 (s .args .step)) (d .ensures .0 _ _ _) in
+    let g = k .0 ∙ pushed-known _ _ _ (d .result .moving) _ _ _ _ (d .ensures .1) (p .1 .1) in (
+      both-taken _ _ _ _ _ _ _ e _ (c .before .before .before .before .before .before .if1 .left) (drained-from _ _ _ _ _ _ _ g (u .0 _ _ _)),
+      record { within = rw (u .1) (k .1 .0); high = p .1 .0 .high; taps-long = p .1 .0 .taps-long; ring-long = k .1 .1 },
+    )
 
 pub feed-two-spec : {M : Type 1} → statement M
 feed-two-spec =

@@ -1,5 +1,5 @@
 -- `sample::push_ahead` meets its contract: the second sum is the filter's over the history with the sample in it and the later one after. Assumes nothing.
-use mathlib.Core.Path.{refl, _∙_}
+use mathlib.Core.Path.{_∙_}
 use Rattle.feeding.proofs.Running.{pushed-down}
 use Rattle.filtering.proofs.Ring.{went-in, history-next}
 use borrow.Author.Needs.{needs}
@@ -29,7 +29,7 @@ returns c =
     let r = c .before .ring-next .ensures in
     let s = c .slide .ensures in
     let w = went-in _ _ _ _ (a .x) _ p (f .0) in (
-      λ step. s .0 _ _ ∙ pushed-down _ _ _ _ _ _ step _ _ _ refl w (r .0),
+      λ step. s .0 _ _ ∙ pushed-down _ _ _ _ step _ _ _ _ w (r .0),
       (
         record { within = rw (s .1) (r .1); high = p .high; taps-long = p .taps-long; ring-long = w .long },
         rw (s .1, r .0, history-next _ _ _ (p .within)) (f .1),
