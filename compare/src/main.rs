@@ -2,6 +2,7 @@
 //!
 //!     compare [--cases N] [--seed S] [--only K] [--quick]
 //!     speed [resampler|receiver|sender|board]
+//!     rates STEP
 //!     soak SAMPLES LINES [--seed S] [--program P] [--only receiver|sender|loops|lines]
 //!     loops STEP BYTES
 //!     loudest FROM TO STEP
@@ -52,6 +53,7 @@ usage: compare [--cases N] [--seed S]   the same calls to both sides
                [--quick]                no search for a smaller case
        speed [resampler|receiver|sender|board]
                                         the time of both sides
+       rates STEP                       the same of the sender in blocks of 64, at each STEPth rate
        soak SAMPLES LINES [--seed S]    both sides on so many samples, and the
                [--program P]            program P on so many lines
                [--only PART]            receiver, sender, loops or lines alone
@@ -73,6 +75,10 @@ fn main() -> ExitCode {
         },
         ["speed"] => speed::run(""),
         ["speed", part @ ("resampler" | "receiver" | "sender" | "board")] => speed::run(part),
+        ["rates", step] => match step.parse() {
+            Ok(step @ 1..=40_000) => speed::rates(step),
+            _ => usage(),
+        },
         ["soak", ref options @ ..] => match soak::Options::from(options) {
             Some(options) => soak::run(&options),
             None => usage(),

@@ -66,6 +66,25 @@ pub fn run(part: &str) -> ExitCode {
     ExitCode::SUCCESS
 }
 
+/// The sender in blocks of 64 at each rate that is so many above another, from
+/// the lowest to the highest, and the largest ratio of medians among them.
+pub fn rates(apart: usize) -> ExitCode {
+    let Some(send) = PORT.send else {
+        println!("the library has no sender");
+        return ExitCode::SUCCESS;
+    };
+    println!("median of {RUNS} runs in turns, nanoseconds a sample; port = {}", PORT.name);
+    let (mut slowest, mut at) = (0.0, 0);
+    for rate in (8_000..=48_000).step_by(apart) {
+        let ratio = sender(send, rate, 64);
+        if slowest < ratio {
+            (slowest, at) = (ratio, rate);
+        }
+    }
+    println!("the largest ratio: {slowest:.3}, at {at}");
+    ExitCode::SUCCESS
+}
+
 /// Such a text again and again for so many seconds, on a line that is heard well.
 fn line(rate: u32, text: &[u8], seconds: u32) -> Vec<f32> {
     let tones = Tones::heard_by(ORIGINATE);
@@ -136,7 +155,7 @@ fn receiver(receive: Receive, rate: u32, block: u32) {
     std::hint::black_box(seen);
 }
 
-fn sender(send: Send, rate: u32, block: usize) {
+fn sender(send: Send, rate: u32, block: usize) -> f64 {
     let mut samples = vec![0.0; (rate * LINE) as usize];
     let mut script = vec![AMPLITUDE, bits_of(0.5), WRITE, 60];
     script.extend([READ, block as u64].repeat(samples.len().div_ceil(block)));
@@ -144,7 +163,7 @@ fn sender(send: Send, rate: u32, block: usize) {
     let mut original_samples = samples.clone();
     let data = [0x35; 60];
     let mut waits = 0;
-    measure(
+    let ratio = measure(
         &format!("sender at {rate}, blocks of {block}"),
         samples.len(),
         &mut || {
@@ -161,6 +180,7 @@ fn sender(send: Send, rate: u32, block: usize) {
         },
     );
     std::hint::black_box(waits);
+    ratio
 }
 
 /// The board against the original's receiver with the judge of `judge.rs`
@@ -196,8 +216,8 @@ fn board(rate: u32, block: u32) {
     std::hint::black_box(judged);
 }
 
-/// Runs both in turns and prints a line.
-fn measure(name: &str, samples: usize, original: &mut dyn FnMut(), port: &mut dyn FnMut()) {
+/// Runs both in turns, prints a line and gives the ratio of the medians.
+fn measure(name: &str, samples: usize, original: &mut dyn FnMut(), port: &mut dyn FnMut()) -> f64 {
     // The first ones touch the memory and tell how long a list takes.
     seconds(port, 1);
     seconds(original, 1);
@@ -213,13 +233,14 @@ fn measure(name: &str, samples: usize, original: &mut dyn FnMut(), port: &mut dy
         }
     }
     let nanoseconds = |seconds: f64| seconds / samples as f64 * 1e9;
+    let ratio = median(&of_port) / median(&of_original);
     println!(
-        "{name:42} {:>9.1} {:>9.1} {:>7.3} {:>9.3}",
+        "{name:42} {:>9.1} {:>9.1} {ratio:>7.3} {:>9.3}",
         nanoseconds(median(&of_original)),
         nanoseconds(median(&of_port)),
-        median(&of_port) / median(&of_original),
         fastest(&of_port) / fastest(&of_original)
     );
+    ratio
 }
 
 /// The time of one list of calls, as the mean of several.
