@@ -7,7 +7,7 @@ use native.Mathlib.Omega.{arith}
 use native.Mathlib.Numerals.{add-one}
 use borrow.Author.Tests.{le-leb, lt-leb, ltb-true, ltb-false}
 use lib.Dec.{leb, ltb}
-use lib.ListN.{length, length-append, length-set, getD, set, take, replicate}
+use lib.ListN.{length, length-append, length-set, getD, set, take}
 use lib.Seq.{getD-set-same, getD-set-other, take-suc}
 use Rattle.framing.specs.Frame.{frameOf}
 use Rattle.framing.specs.Framing.{marks, framesOf}

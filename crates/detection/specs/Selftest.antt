@@ -1,6 +1,5 @@
 -- What the examples of the inner parts answer: the detector on one energy, and a block of equal samples. Assumes nothing.
 use Prim.Native.Nat.{ℕ, zero, suc}
-use mathlib.Core.Bool.{Bool, true, false}
 use lib.Ieee.{Float}
 use Rattle.numeric.specs.F64.{if_then_else_, f64}
 use Rattle.detection.specs.Carrier.{updated, freshDetector, freshDominance, withSample, dominanceStep, BlockAnswer, endedAnswer}

@@ -1,2 +1,2 @@
--- What the functions exported to C give, beside what `calls` and `states` say.
+-- What the functions exported to C give, beside what `calls`, `receivecalls`, `states`, `sendcalls` and `boardnumbers` say.
 pub mod Listen

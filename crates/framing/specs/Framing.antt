@@ -11,7 +11,7 @@ use Rattle.numeric.specs.F64.{if_then_else_}
 use Rattle.framing.specs.declared.frame.Deframer.{Deframer}
 use Rattle.framing.specs.declared.frame.Pushed.{Pushed}
 use Rattle.framing.specs.Frame.{mark, space, frameOf, Idle, oneMore, mostErrors, idleBit, dataBit, stopBit, badStop, pushBit, push-idle, push-data, push-stop, bytesOf, heard, after}
-use Rattle.numeric.specs.Tested.{both-left, both-right, allBelow, at-number, allBits, at-bits, sameBits, same-bits}
+use Rattle.numeric.specs.Tested.{both-left, both-right, at-number, at-bits, sameBits, same-bits}
 
 -- ---- one list of bits after another
 pub heard-append : (d : Deframer) (xs ys : List Bool) → heard d (xs ++ ys) ≡ heard d xs ++ heard (after d xs) ys

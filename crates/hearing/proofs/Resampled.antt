@@ -8,25 +8,19 @@ use borrow.Author.Tests.{le-ltb}
 use lib.ListN.{length, take, drop, length-append, length-drop}
 use lib.Seq.{take-append-seam, length-take-le}
 use lib.Ieee.{Float}
-use Rattle.refusal.specs.Refusals.{given, countOf, countIn}
+use Rattle.refusal.specs.Refusals.{countOf, countIn, count-given}
 use Rattle.feeding.specs.Flow.{ran}
 use Rattle.resampling.specs.Resample.{State, outcome, Outcome, lenOf, tooMany, maxOutputLen, processed, laid}
 use Rattle.resampling.specs.ResampleLaws.{accepted, equal-rates, ran-few, output-few}
 use Rattle.resampling.specs.ResampleHeld.{stateOf, Sound}
 use Rattle.hearing.specs.Hear.{resampled, Resamples}
 use Rattle.refusal.specs.declared.Counted.{Counted}
-use Rattle.refusal.specs.declared.Counted.the-variants as counted
 use Rattle.resampling.specs.declared.resample.Resampler.{Resampler}
-
--- a count that is given
-pub count-in : (c : Counted) (n : ℕ) → countOf c ≡ given n → countIn c ≡ n
-count-in (counted.Count k) n e = cc
-count-in (counted.Refused r) n e = let z : _≡_ {A = ℕ} 0 1 = cc in absurd (omega arith)
 
 -- the room that a call of n samples asks for
 pub room-is : (s : State) (n : ℕ) (c : Counted) → n ≤ 2048 → countOf c ≡ lenOf s n → countIn c ≡ maxOutputLen (s .src) (s .dst) n
 unfolding lenOf tooMany
-room-is s n c h e = count-in c (maxOutputLen (s .src) (s .dst) n) (e ∙ rw (le-ltb _ _ h))
+room-is s n c h e = count-given c (maxOutputLen (s .src) (s .dst) n) (e ∙ rw (le-ltb _ _ h))
 
 pub room-few : (s : State) (n : ℕ) → n ≤ 1024 → 8000 ≤ s .src → s .dst ≡ 8000 → maxOutputLen (s .src) (s .dst) n ≤ 1026
 room-few s n h l e = rw e (few (maxOutputLen (s .src) 8000 n) (output-few (s .src) n l))
@@ -54,7 +48,7 @@ resamples b r xs out o′ need a snd h n l k e =
     let R = resampled (stateOf b) xs in
     let f = e ∙ gives (stateOf b) xs (take need out) h (t ∙ n) in
     let w = within (stateOf b) xs (take need out) h (t ∙ n) in
-    let c : countIn a ≡ length (R .out) = count-in a (length (R .out)) (ap (λ (x : Outcome). x .answer) f) in
+    let c : countIn a ≡ length (R .out) = count-given a (length (R .out)) (ap (λ (x : Outcome). x .answer) f) in
     let st = ap (λ (x : Outcome). x .state) f in
     let oo : o′ ≡ R .out ++ drop (length (R .out)) (take need out) = ap (λ (x : Outcome). x .out) f in
     let ol : length o′ ≡ need = ap length oo ∙ length-append (R .out) _ ∙ ap (λ (x : ℕ). length (R .out) + x) (length-drop (length (R .out)) (take need out)) ∙ tail (length (R .out)) (length (take need out)) need w t in

@@ -5,13 +5,12 @@ use demodulation::demod::Demodulator;
 use queues::queue::Events;
 use queues::queue::keep_heard;
 use queues::queue::note_into;
-use refusal::Counted;
+use refusal::count_in;
 use resampling::resample::Resampler;
 use samples::samples::widen_into;
 ghost use mathlib.Core.Path.{_≡_};
 ghost use Prim.Native.Nat.{_≤_};
 ghost use lib.ListN.{length};
-ghost use Rattle.refusal.specs.Refusals.{countIn};
 ghost use Rattle.resampling.specs.ResampleHeld.{Sound};
 ghost use Rattle.hearing.specs.Hear.{Resamples, Hearable, HearsInto};
 
@@ -21,15 +20,6 @@ fn zeros_256() -> [f64; 256] {
 
 fn zeros_1024() -> [f64; 1024] {
     [0.0f64; 1024]
-}
-
-fn count_in(c: Counted) -> usize
-    ensures { λ r. ⌜ r ≡ countIn c ⌝ }
-{
-    match c {
-        Counted::Count(n) => n,
-        Counted::Refused(_) => 0,
-    }
 }
 
 // The resampler after a call's samples, and how many it made of them.

@@ -1,18 +1,17 @@
 -- The ear and a board that acts on its news hear what the definition hears. Assumes nothing.
-use Prim.Native.Nat.{ℕ, suc, _+_, _≤_, _<_, min}
+use Prim.Native.Nat.{ℕ, suc, _+_, _≤_, _<_}
 use mathlib.Core.Path.{_≡_, refl, sym, ap, _∙_}
 use mathlib.Core.Bool.{Bool, true, false}
 use mathlib.Core.List.{List, [], _∷_, _++_}
 use native.Mathlib.Numerals.{add-one}
 use native.Mathlib.Omega.{arith}
-use borrow.Author.Tests.{eqb-true, eqb-false}
+use borrow.Author.Tests.{eqb-true}
 use lib.Dec.{eqb}
 use lib.ListN.{length, take, drop, getD, set, length-set}
 use lib.Seq.{drop-cons, drop-length, length-take-le, take-suc-set, take-all}
 use lib.Ieee.{Float}
 use Rattle.numeric.specs.F64.{if_then_else_}
 use Rattle.bell103.specs.declared.Role.{Role}
-use Rattle.desk.specs.Held.{mostCount}
 use Rattle.board.specs.Plain as plain
 use Rattle.wav.specs.Wav.{addByte}
 use Rattle.wav.specs.declared.wav.Wav.{Wav}

@@ -1,6 +1,6 @@
 -- A receiver's call, put together from what its parts ensure. Assumes nothing.
 use Prim.Native.Nat.{ℕ, zero, suc, _+_, _≤_}
-use mathlib.Core.Path.{_≡_, refl, sym, ap, _∙_}
+use mathlib.Core.Path.{_≡_, refl, ap, _∙_}
 use mathlib.Core.Bool.{Bool, true, false, not, _&&_, _||_, true≢false}
 use lib.Dec.{eqb, ltb}
 use mathlib.Core.List.{List}
@@ -8,7 +8,7 @@ use native.Mathlib.Omega.{arith}
 use borrow.Author.Tests.{ltb-false}
 use lib.ListN.{length}
 use lib.Ieee.{Float}
-use Rattle.refusal.specs.Refusals.{Reply, given, acceptanceOf, isAccepted, replyOf, first, rateRefused, ratesRefused}
+use Rattle.refusal.specs.Refusals.{Reply, given, acceptanceOf, isAccepted, accepted-none, replyOf, first, rateRefused, ratesRefused}
 use Rattle.resampling.specs.Resample.{State, Made, made, newOf, fresh, state}
 use Rattle.modem.specs.Rx.{Receiver, refusalOf, acceptedBy, wrote, written, unlessRefused}
 use Rattle.samples.specs.Write.{refusedBy}
@@ -64,11 +64,6 @@ pub bytes-fit : (d : Demodulator) (ys : List Float) (waiting : ℕ) → waiting 
 bytes-fit d ys waiting w l = omega (arith, hearing-few d ys, held-most (d .core .deframer))
 
 -- what an answer says of the number that it stands for
-pub accepted-none : (a : Acceptance) (k : ℕ) → acceptanceOf a ≡ replyOf k → isAccepted a ≡ true → k ≡ 0
-accepted-none acceptance.Accepted zero e t = refl
-accepted-none acceptance.Accepted (suc k) e t = let z : _≡_ {A = ℕ} 0 1 = cc in absurd (omega arith)
-accepted-none (acceptance.Refused r) k e t = absurd (true≢false (sym t))
-
 module _ (r : Receiver) (xs : List Float) (a : Acceptance) (e : acceptanceOf a ≡ replyOf (refusalOf r xs)) where
   pub went-through : isAccepted a ≡ true → wrote (acceptanceOf a) (acceptedBy r xs) ≡ written r xs
   unfolding written

@@ -1,6 +1,6 @@
 -- How many samples a pass generates and makes, in whole numbers. Assumes nothing.
 use Prim.Native.Nat.{ℕ, zero, suc, _+_, _-_, _*_, _/_, _%_, _≤_, _<_}
-use mathlib.Core.Path.{_≡_, refl, sym, ap, _∙_}
+use mathlib.Core.Path.{_≡_}
 use mathlib.Core.Bool.{Bool, true, false}
 use native.Mathlib.Nat.{lt-of-mul-lt-mul-right, div-add-mod, mod-lt, mul-comm, mul-le-mul-left, add-mul, mul-le-mul}
 use native.Mathlib.Omega.{arith}

@@ -1,28 +1,27 @@
 -- What a pass leaves in the slice and in `pending`, from what its parts ensure. Assumes nothing.
-use Prim.Native.Nat.{ℕ, zero, suc, _+_, _-_, _*_, _<_, _≤_, min}
-use mathlib.Core.Path.{_≡_, refl, sym, ap, ap₂, _∙_, subst}
-use mathlib.Core.Bool.{Bool, true, false}
-use mathlib.Core.List.{List, [], _∷_, _++_, map}
+use Prim.Native.Nat.{ℕ, _+_, _-_, _≤_, min}
+use mathlib.Core.Path.{_≡_, sym, ap, ap₂, _∙_}
+use mathlib.Core.Bool.{Bool}
+use mathlib.Core.List.{List, [], _++_, map}
 use native.Mathlib.Omega.{arith}
-use lib.ListN.{length, take, drop, length-take, length-drop, length-append, length-map}
+use lib.ListN.{length, take, drop, length-take, length-drop, length-map}
 use lib.Seq.{take-at, length-take-le, take-append-seam}
 use lib.Ieee.{Float}
 use Rattle.numeric.specs.Counts.{need}
-use Rattle.refusal.specs.Refusals.{given, countOf, countIn}
+use Rattle.refusal.specs.Refusals.{countOf, countIn, count-given}
 use Rattle.bitqueue.specs.Bits.{BitsHeld}
-use Rattle.resampling.specs.Resample.{State, ranOver, maxOutputLen, Outcome, outcome, processed, laid}
+use Rattle.resampling.specs.Resample.{State, ranOver, maxOutputLen, Outcome, outcome, processed}
 use Rattle.feeding.specs.Flow.{Ran}
 use Rattle.resampling.specs.ResampleLaws.{accepted, ran-few}
 use Rattle.resampling.specs.ResampleHeld as resample
 use Rattle.resampling.specs.ResampleHeld.{stateOf}
 use Rattle.refusal.specs.declared.Counted.{Counted}
-use Rattle.refusal.specs.declared.Counted.the-variants as counted
 use Rattle.bell103.specs.declared.TonePair.{TonePair}
 use Rattle.resampling.specs.declared.resample.Resampler.{Resampler}
 use Rattle.modulation.specs.declared.modulate.Wave.{Wave}
 use Rattle.modulation.specs.Tone.{Keyer, Sound, sound, generated}
-use Rattle.modulation.specs.Modulator.{Modulator, modulator, scaled, toneFor, madeFor, batch, Passed, passed, handed, pass}
-use Rattle.modulation.specs.ModulatorHeld.{keyerOf, pendingIn, Rising, PendingHeld, HandsOver, SharesInto, MakesInto, EqualInto, PassesInto}
+use Rattle.modulation.specs.Modulator.{Modulator, modulator, scaled, madeFor, batch, passed, handed, pass}
+use Rattle.modulation.specs.ModulatorHeld.{keyerOf, Rising, HandsOver, SharesInto, MakesInto, EqualInto, PassesInto}
 use Rattle.modulation.proofs.Slices.{take-map, drop-map, take-least, drop-least, take-rest}
 use Rattle.modulation.proofs.Tones.{generated-length}
 use Rattle.modulation.proofs.Counts.{surplus}
@@ -49,11 +48,6 @@ shares xs a n c ys tail zs behind e ey ez l =
     }
 
 -- ---- `make`
--- a count that is given
-pub count-in : (c : Counted) (n : ℕ) → countOf c ≡ given n → countIn c ≡ n
-count-in (counted.Count k) n e = cc
-count-in (counted.Refused r) n e = let z : _≡_ {A = ℕ} 0 1 = cc in absurd (omega arith)
-
 pub makes : (a : List Bool) (t : TonePair) (w w′ : Wave) (r r′ : Resampler) (n : ℕ) (xs out out′ : List Float) (answer : Counted) (count : ℕ)
     → sound xs (keyerOf a w′) ≡ generated n t (keyerOf a w) → BitsHeld a (w′ .head) (w′ .waiting) → n ≤ 2048 → length out ≡ maxOutputLen (r .«src_rate») (r .«dst_rate») n
     → length out′ ≡ length out → outcome (countOf answer) (stateOf r′) out′ ≡ processed (stateOf r) xs out → resample.Sound r′ → count ≡ countIn answer
@@ -66,7 +60,7 @@ makes a t w w′ r r′ n xs out out′ answer count eg held few lo lo′ ep snd
     let lm : length out ≡ maxOutputLen (r .«src_rate») (r .«dst_rate») (length xs) = lo ∙ ap (maxOutputLen (r .«src_rate») (r .«dst_rate»)) (sym lx) in
     let R = ranOver (stateOf r) (length out) xs in
     let f = ep ∙ accepted (stateOf r) xs out (omega arith) (omega (arith, lm)) in
-    let c : count ≡ length (R .out) = ec ∙ count-in answer (length (R .out)) (ap (λ (z : Outcome). z .answer) f) in
+    let c : count ≡ length (R .out) = ec ∙ count-given answer (length (R .out)) (ap (λ (z : Outcome). z .answer) f) in
     let oo : out′ ≡ R .out ++ drop (length (R .out)) out = ap (λ (z : Outcome). z .out) f in
     let fit : length (R .out) ≤ length out = rw lm (ran-few (stateOf r) xs) in
     let same : R ≡ ranOver (stateOf r) (length out′) (g .samples) = ap₂ (ranOver (stateOf r)) (sym lo′) ex in

@@ -1,7 +1,6 @@
 -- The tones of the bits that wait (tx.rs: `next_symbol` and the inner loop of `read`): the oscillator, the symbol clock and the bits, at
 -- 8,000 Hz. Assumes nothing.
 use Prim.Native.Nat.{ℕ, zero, suc}
-use mathlib.Core.Path.{_≡_}
 use mathlib.Core.Bool.{Bool, true, false}
 use mathlib.Core.List.{List, [], _∷_}
 use lib.Ieee.{Float}

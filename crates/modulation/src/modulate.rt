@@ -9,14 +9,13 @@ use numeric::counts::ceiling;
 use numeric::counts::nearest;
 use numeric::sine::sine;
 use numeric::sines::sines;
-use refusal::Counted;
+use refusal::count_in;
 use resampling::resample::Resampler;
 ghost use mathlib.Core.Path.{_≡_};
 ghost use mathlib.Core.List.{[], _∷_, map};
 ghost use Prim.Native.Nat.{min, _+_, _*_, _≤_, _<_};
 ghost use lib.ListN.{length};
 ghost use Rattle.numeric.specs.Counts.{need};
-ghost use Rattle.refusal.specs.Refusals.{countIn};
 ghost use Rattle.bitqueue.specs.Bits.{queued, BitsHeld};
 ghost use Rattle.resampling.specs.Resample.{maxOutputLen};
 ghost use Rattle.resampling.specs.ResampleHeld.{Sound};
@@ -254,15 +253,6 @@ fn room_for(k: usize, rate: u32) -> usize
     ensures { λ r. ⌜ r ≡ maxOutputLen 8000 rate k ⌝ }
 {
     nearest((k as u64) * (rate as u64), 8000) as usize + 2
-}
-
-fn count_in(c: Counted) -> usize
-    ensures { λ r. ⌜ r ≡ countIn c ⌝ }
-{
-    match c {
-        Counted::Count(n) => n,
-        Counted::Refused(_) => 0,
-    }
 }
 
 struct Made {

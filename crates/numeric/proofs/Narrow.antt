@@ -3,7 +3,7 @@ use Prim.Native.Nat.{ℕ, zero, suc, _+_, _-_, _*_, _/_, _%_, _^_, _<_, _≤_, z
 use mathlib.Core.Path.{_≡_, refl, sym, ap, _∙_, subst}
 use mathlib.Core.Logic.{inl, inr}
 use mathlib.Core.Bool.{Bool, true, false, not, cond, _&&_, true≢false, false≢true}
-use native.Mathlib.Nat.{le-trans, le-of-eq, le-refl, lt-irrefl, lt-of-lt-of-le, lt-of-le-of-lt, lt-of-not-le, not-le-of-lt, le-of-suc-le-suc, zero-lt-suc, mul-one, one-mul, mul-assoc, mul-comm, mul-left-comm, mul-le-mul-right, mul-le-mul-left, div-lt-iff-lt-mul, le-div-iff-mul-le, mul-div-mul-right, mul-div-cancel, mul-add-div-right, mul-add-mod-self-right, div-eq-of-lt, mod-eq-of-lt, mul-pos, eq-or-lt-of-le, eq-zero-or-pos, pow-succ'}
+use native.Mathlib.Nat.{le-trans, le-of-eq, le-refl, lt-irrefl, lt-of-lt-of-le, lt-of-le-of-lt, lt-of-not-le, not-le-of-lt, le-of-suc-le-suc, zero-lt-suc, mul-one, one-mul, mul-assoc, mul-comm, mul-le-mul-right, mul-le-mul-left, div-lt-iff-lt-mul, le-div-iff-mul-le, mul-div-mul-right, mul-div-cancel, mul-add-div-right, mul-add-mod-self-right, div-eq-of-lt, mod-eq-of-lt, mul-pos, eq-or-lt-of-le, eq-zero-or-pos, pow-succ'}
 use native.Mathlib.Omega.{arith}
 use borrow.Author.Tests.{le-leb, lt-leb, eq-eqb, ne-eqb}
 use lib.Dec.{T, isLe, isEq, ltb, leb, eqb, ltb→lt, leb→le, eqb→eq, nltb→le, nleb→lt, lit<, lit≤}

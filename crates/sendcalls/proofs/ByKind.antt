@@ -1,15 +1,14 @@
 -- Which call each kind is, and the amplitude in a number. Assumes nothing.
-use Prim.Native.Nat.{ℕ, _%_, _^_, _<_, _≤_}
-use mathlib.Core.Path.{_≡_, refl, sym, ap, _∙_, subst}
-use mathlib.Core.Bool.{Bool, true, false, not}
+use Prim.Native.Nat.{ℕ, _%_, _<_, _≤_}
+use mathlib.Core.Path.{_≡_, refl, sym, _∙_, subst}
+use mathlib.Core.Bool.{true, not}
 use mathlib.Core.List.{List}
-use native.Mathlib.Omega.{arith}
 use borrow.Author.Tests.{eq-eqb, ne-eqb, lt-ltb, le-ltb}
 use lib.Dec.{T}
 use lib.ListN.{length}
 use lib.Ieee.{Float, nan, inf, fin, binary32, ofBits, nanBits, isNan, div}
 use lib.Ieee.Bits.{nanBits-is, nanBits-above}
-use Rattle.refusal.specs.Refusals.{Reply, acceptanceOf, countOf}
+use Rattle.refusal.specs.Refusals.{Reply}
 use Rattle.callparts.specs.Answers.{numberIn, countIn}
 use Rattle.sending.specs.Tx.{Sender, Adjusted, adjusted, amplitudeOf, Reading, reading, readOf, durationOf}
 use Rattle.sending.specs.TxHeld.{senderOf, TxSound}

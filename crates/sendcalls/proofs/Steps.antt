@@ -1,5 +1,5 @@
 -- Calls of the sender, one after the other, over lists. Assumes nothing.
-use Prim.Native.Nat.{ℕ, zero, suc, min, _+_, _*_, _-_, _<_, _≤_}
+use Prim.Native.Nat.{ℕ, zero, suc, min, _+_, _*_, _-_, _≤_}
 use mathlib.Core.Path.{_≡_, refl, sym, ap, _∙_, subst}
 use mathlib.Core.Bool.{true, false}
 use mathlib.Core.List.{List, [], _∷_, _++_, append-assoc}
@@ -20,7 +20,7 @@ use Rattle.sending.specs.declared.tx.Filled.{Filled}
 use Rattle.sending.proofs.Calls.{never-refused, read-filled}
 use Rattle.callparts.specs.Made.{accepted-only, refused-only}
 use Rattle.callparts.specs.Answers.{bit}
-use Rattle.calls.specs.Resample.{Run, ran, after}
+use Rattle.calls.specs.Resample.{ran, after}
 use Rattle.calls.proofs.Calls.{after-after, after-start}
 use Rattle.sendcalls.specs.Send.{Outcome, called, bytesFor, placesFor, told, sentFrom}
 use Rattle.sendcalls.specs.SendSteps.{outcomeOf, Within, calledAt, Stepped, SteppedWithin, PlainRead}

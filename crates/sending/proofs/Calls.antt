@@ -1,23 +1,21 @@
 -- What the sender's calls answer, from what their parts ensure. Assumes nothing.
 use Prim.Native.Nat.{ℕ, zero, suc, _+_, _*_, _≤_, _<_}
 use mathlib.Core.Path.{_≡_, refl, sym, ap, _∙_}
-use mathlib.Core.Bool.{Bool, true, false, not, _||_, _&&_, true≢false}
-use mathlib.Core.List.{List, []}
+use mathlib.Core.Bool.{Bool, true, false, _||_, true≢false}
+use mathlib.Core.List.{List}
 use native.Mathlib.Omega.{arith}
-use lib.Dec.{eqb, ltb}
+use lib.Dec.{ltb}
 use borrow.Author.Tests.{lt-ltb, le-ltb, ltb-false}
 use lib.ListN.{length}
 use lib.Ieee.{Float}
 use Rattle.refusal.specs.Refusals.{Reply, given, refused, first, replyOf, acceptanceOf, isAccepted, rateRefused, ratesRefused}
 use Rattle.bitqueue.specs.Bits.{queued}
 use Rattle.resampling.specs.Resample as resample
-use Rattle.resampling.specs.ResampleHeld.{stateOf}
-use Rattle.resampling.specs.Place.{Reached, start-reached}
+use Rattle.resampling.specs.Place.{start-reached}
 use Rattle.refusal.specs.declared.Acceptance.{Acceptance}
 use Rattle.refusal.specs.declared.Acceptance.the-variants as acceptance
-use Rattle.modulation.specs.Modulator.{Modulator}
-use Rattle.sending.specs.Tx.{Sender, sender, filled, Reading, reading, readRefused, unlessRefused, filledFor, readOf, bitsWait}
-use Rattle.sending.specs.TxHeld.{Fed, modulatorOf, senderOf, TxSound, FillsWhole}
+use Rattle.sending.specs.Tx.{sender, filled, reading, readRefused, unlessRefused, filledFor, readOf, bitsWait}
+use Rattle.sending.specs.TxHeld.{Fed, modulatorOf, senderOf, FillsWhole}
 use Rattle.sending.specs.declared.tx.Tx.{Tx}
 
 -- ---- a fresh resampler up from 8,000
@@ -46,12 +44,6 @@ neither false b e = (refl, e)
 pub in-range : (rate : ℕ) → rateRefused rate ≡ false → (8000 ≤ rate) × (rate ≤ 48000)
 unfolding rateRefused
 in-range rate e = let p = neither (ltb rate 8000) (ltb 48000 rate) e in (ltb-false _ _ (p .0), ltb-false _ _ (p .1))
-
--- ---- a check that answers as its number does
-pub accepted-none : (a : Acceptance) (k : ℕ) → acceptanceOf a ≡ replyOf k → isAccepted a ≡ true → k ≡ 0
-accepted-none acceptance.Accepted zero e t = refl
-accepted-none acceptance.Accepted (suc k) e t = let z : _≡_ {A = ℕ} 0 1 = cc in absurd (omega arith)
-accepted-none (acceptance.Refused r) k e t = absurd (true≢false (sym t))
 
 -- ---- `read`
 pub none-refused : (served n : ℕ) → readRefused served n ≡ 0 → (n ≤ 1024) × (served + n ≤ 4294967296)

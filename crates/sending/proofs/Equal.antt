@@ -1,27 +1,24 @@
 -- At a rate of 8,000: a pass for r samples makes r and one more, and leaves the resampler as it is. Assumes nothing.
-use Prim.Native.Nat.{ℕ, zero, suc, _+_, _-_, _*_, _<_, _≤_}
+use Prim.Native.Nat.{ℕ, _+_, _-_, _<_, _≤_}
 use mathlib.Core.Path.{_≡_, sym, ap, _∙_, subst}
-use mathlib.Core.Bool.{Bool}
 use mathlib.Core.List.{List, [], _++_, map}
 use native.Mathlib.Nat.{le-trans}
 use native.Mathlib.Omega.{arith}
 use lib.ListN.{length, take, drop}
 use lib.Ieee.{Float}
 use Rattle.numeric.specs.Counts.{need}
-use Rattle.bitqueue.specs.Bits.{BitsHeld}
 use Rattle.resampling.specs.Resample.{State, state, ranOver}
-use Rattle.feeding.specs.Flow.{Ran, ran}
+use Rattle.feeding.specs.Flow.{ran}
 use Rattle.resampling.specs.ResampleHeld.{stateOf}
 use Rattle.refusal.specs.declared.Acceptance.the-variants.{Accepted}
 use Rattle.bell103.specs.declared.TonePair.{TonePair}
-use Rattle.modulation.specs.Tone.{Keyer, Sound, sound, generated}
-use Rattle.modulation.specs.Modulator.{Modulator, modulator, scaled, madeFor, batch, Passed, passed, handed, pass}
-use Rattle.modulation.specs.ModulatorHeld.{keyerOf, pendingIn, Rising, PendingHeld, HandsOver, EqualInto}
-use Rattle.sending.specs.TxHeld.{modulatorOf, Fed, TxSound, FillsWhole, after, Parts, FillsPlaces}
+use Rattle.modulation.specs.Tone.{Keyer, Sound, generated}
+use Rattle.modulation.specs.Modulator.{Modulator, modulator, scaled, madeFor, batch, passed, handed, pass}
+use Rattle.modulation.specs.ModulatorHeld.{keyerOf, pendingIn, HandsOver, EqualInto}
+use Rattle.sending.specs.TxHeld.{modulatorOf, TxSound, FillsWhole, after, Parts, FillsPlaces}
 use Rattle.modulation.specs.declared.modulate.Wave.{Wave}
 use Rattle.sending.specs.declared.tx.Tx.{Tx}
-use Rattle.modulation.proofs.Tones.{generated-length}
-use Rattle.sending.proofs.Filling.{Going, On, going-start, going-end, so-turn, pending-none, soFar}
+use Rattle.sending.proofs.Filling.{Going, going-start, going-end, so-turn, pending-none, soFar}
 
 need-equal : (r : ℕ) → need r 8000 ≡ r + 1
 need-equal r = omega arith

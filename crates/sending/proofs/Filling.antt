@@ -1,6 +1,6 @@
 -- The passes of a read: what is written and what is left are together the whole, and the slice is full within its length and two passes.
 -- Assumes nothing.
-use Prim.Native.Nat.{ℕ, zero, suc, _+_, _-_, _*_, _^_, _<_, _≤_, min}
+use Prim.Native.Nat.{ℕ, zero, suc, _+_, _-_, _*_, _^_, _<_, _≤_}
 use mathlib.Core.Path.{_≡_, refl, sym, ap, ap₂, _∙_, subst}
 use mathlib.Core.Bool.{Bool, true, false}
 use mathlib.Core.List.{List, [], _∷_, _++_, map, append-assoc, append-nil}
@@ -8,22 +8,21 @@ use native.Mathlib.Nat.{le-trans, add-assoc}
 use native.Mathlib.Omega.{arith}
 use lib.Dec.{ltb, eqb}
 use borrow.Author.Tests.{ltb-true, ltb-false, ne-eqb}
-use lib.ListN.{length, take, drop, length-take, length-drop, length-append, length-map}
+use lib.ListN.{length, take, drop, length-take, length-drop, length-map}
 use lib.Seq.{take-all, take-append-add, take-append-le, length-take-le, drop-drop}
 use lib.Ieee.{Float}
-use Rattle.numeric.specs.F64.{whole, _⊘_}
 use Rattle.numeric.specs.Bounds.{AtMost}
 use Rattle.numeric.specs.Counts.{need}
-use Rattle.feeding.specs.Flow.{Filter, Flow, Ran, fed}
+use Rattle.feeding.specs.Flow.{Flow, Ran, fed}
 use Rattle.resampling.specs.Resample.{State, state, ranOver, filterOf, maxOutputLen}
 use Rattle.resampling.specs.ResampleHeld.{stateOf}
-use Rattle.resampling.specs.Place.{Reached, Moved, fed-moved-some, fed-yields, step-short}
+use Rattle.resampling.specs.Place.{Reached, fed-moved-some, fed-yields, step-short}
 use Rattle.resampling.specs.declared.resample.Resampler.{Resampler}
 use Rattle.bitqueue.specs.Bits.{BitsHeld}
 use Rattle.refusal.specs.declared.Acceptance.the-variants.{Accepted}
 use Rattle.bell103.specs.declared.TonePair.{TonePair}
 use Rattle.modulation.specs.Tone.{Keyer, generated}
-use Rattle.modulation.specs.Modulator.{Modulator, modulator, scaled, madeFor, batch, Passed, passed, handed, pass}
+use Rattle.modulation.specs.Modulator.{Modulator, modulator, madeFor, batch, Passed, passed, handed, pass}
 use Rattle.sending.specs.Tx.{Filling, filling, passThen, passes, filled}
 use Rattle.modulation.specs.ModulatorHeld.{keyerOf, pendingIn, Rising, PendingHeld, HandsOver, PassesInto}
 use Rattle.sending.specs.TxHeld.{modulatorOf, Fed, TxSound, FillsWhole, after}

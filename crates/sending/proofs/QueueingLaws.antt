@@ -1,11 +1,10 @@
 -- A request refused, or its bits behind those that wait. Assumes nothing.
-use Prim.Native.Nat.{ℕ, _+_, _*_, _≤_}
-use mathlib.Core.Path.{_≡_, refl, sym, ap, _∙_}
+use Prim.Native.Nat.{ℕ, _+_, _≤_}
+use mathlib.Core.Path.{_≡_, sym, ap, _∙_}
 use mathlib.Core.Bool.{Bool, true, false}
-use mathlib.Core.List.{List, _++_}
+use mathlib.Core.List.{List}
 use lib.ListN.{length}
 use borrow.Author.Tests.{ltb-false}
-use Rattle.numeric.specs.F64.{if_then_else_}
 use Rattle.refusal.specs.Refusals.{Reply, given, refused}
 use Rattle.bitqueue.specs.Bits.{mostBits, queued, queued-length, Joined, bitsRefused}
 use Rattle.bitqueue.specs.Requests.{Request, bitsOf, newBits, isRefused}

@@ -15,13 +15,14 @@ use refusal::Acceptance;
 use refusal::Counted;
 use refusal::DSP_RATE;
 use refusal::Refusal;
+use refusal::is_accepted;
 use refusal::rate_ok;
 use resampling::resample::Resampler;
 ghost use mathlib.Core.Path.{_≡_};
 ghost use mathlib.Core.Bool.{not, false};
 ghost use Prim.Native.Nat.{_+_, _*_, _≤_, _<_};
 ghost use lib.ListN.{length};
-ghost use Rattle.refusal.specs.Refusals.{acceptanceOf, isAccepted, countOf, replyOf, rateRefused};
+ghost use Rattle.refusal.specs.Refusals.{acceptanceOf, countOf, replyOf, rateRefused};
 ghost use Rattle.bitqueue.specs.Bits.{BitsHeld};
 ghost use Rattle.modulation.specs.ModulatorHeld.{PendingHeld};
 ghost use Rattle.sending.specs.Tx.{freshSender, made, newOf, readRefused, reading, readOf, adjusted, amplitudeRefused, amplitudeOf, pendingOf, durationOf};
@@ -270,15 +271,6 @@ fn check(n: usize, served: u64) -> Acceptance
         return Acceptance::Refused(Refusal::OutOfSamples);
     }
     Acceptance::Accepted
-}
-
-fn is_accepted(a: Acceptance) -> bool
-    ensures { λ r. ⌜ r ≡ isAccepted a ⌝ }
-{
-    match a {
-        Acceptance::Accepted => true,
-        Acceptance::Refused(_) => false,
-    }
 }
 
 // Whether the amplitude is in 0 to 1.

@@ -1,6 +1,5 @@
 -- The words of the command. Assumes nothing.
 use Prim.Native.Nat.{ℕ}
-use mathlib.Core.Bool.{not}
 use lib.Dec.{eqb}
 use Rattle.numeric.specs.F64.{if_then_else_}
 use Rattle.refusal.specs.Refusals.{rateRefused}

@@ -6,14 +6,13 @@ use crate::header::byte_2;
 use crate::header::byte_3;
 use crate::header::header;
 use bell103::Role;
-use refusal::Acceptance;
 use refusal::Counted;
+use refusal::is_accepted;
 use sending::tx::Tx;
 ghost use mathlib.Core.Path.{_≡_};
 ghost use mathlib.Core.List.{[]};
 ghost use Prim.Native.Nat.{_+_, _-_, _*_, _≤_, _<_, min};
 ghost use lib.ListN.{length};
-ghost use Rattle.refusal.specs.Refusals.{isAccepted};
 ghost use Rattle.sending.specs.TxHeld.{senderOf, TxSound};
 ghost use Rattle.sendtext.specs.Call.{callOf, bitPeriods, openedOf, sent, queuedMore, blockOf};
 
@@ -60,15 +59,6 @@ fn opened(tx: Tx) -> Tx
 struct Sending {
     tx: Tx,
     at: usize,
-}
-
-fn is_accepted(a: Acceptance) -> bool
-    ensures { λ r. ⌜ r ≡ isAccepted a ⌝ }
-{
-    match a {
-        Acceptance::Accepted => true,
-        Acceptance::Refused(_) => false,
-    }
 }
 
 // The next 64 bytes of the text at the most, if the queue has room for them.

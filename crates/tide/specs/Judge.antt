@@ -1,5 +1,5 @@
 -- What a line is judged to be: the numbers 11 to 20 and 34, and the reading that it leaves. Assumes nothing.
-use Prim.Native.Nat.{ℕ, _-_, _%_}
+use Prim.Native.Nat.{ℕ, _%_}
 use mathlib.Core.Bool.{Bool, true, not, _||_}
 use mathlib.Core.List.{List}
 use lib.Dec.{ltb, eqb}

@@ -1,17 +1,17 @@
 -- The reader on whole recordings: it tells the rate, and then exactly the samples of the first channel. Assumes nothing.
-use Prim.Native.Nat.{ℕ, zero, suc, _+_, _-_, _*_, _/_, _%_, _^_, _≤_, _<_}
-use mathlib.Core.Path.{_≡_, refl, sym, ap, subst, _∙_}
+use Prim.Native.Nat.{ℕ, zero, suc, _+_, _-_, _*_, _/_, _%_, _<_}
+use mathlib.Core.Path.{_≡_, refl, sym, ap, _∙_}
 use mathlib.Core.Bool.{Bool, true, false}
 use mathlib.Core.List.{List, [], _∷_, _++_, append-assoc, append-nil}
 use native.Mathlib.Nat.{zero-mul, mul-mod-left, mul-div-cancel}
 use native.Mathlib.Omega.{arith}
 use borrow.Author.Tests.{lt-ltb, le-ltb, eq-eqb, ne-eqb, eqb-true, eqb-false}
-use lib.Dec.{ltb, leb, eqb}
+use lib.Dec.{ltb, eqb}
 use lib.ListN.{length, length-append}
 use Rattle.numeric.specs.F64.{if_then_else_}
 use Rattle.refusal.specs.Refusals.{rateRefused}
 use Rattle.wavparts.specs.Sample.{pcmOf, floatOf, sampleOf}
-use Rattle.wav.specs.Wav.{riff, wave, fmt, data', freshWav, rawWav, moved, step, going, fixed, skip, padded, named, formatSize, settle, settled, shaped, shapeWord, start, dataSize, nextFrame, overOthers, sampled, frameOver, done, addByte, finishFrame, finishOf}
+use Rattle.wav.specs.Wav.{riff, wave, fmt, data', freshWav, rawWav, step, going, fixed, skip, padded, named, formatSize, settle, shapeWord, start, dataSize, nextFrame, overOthers, sampled, done, addByte, finishFrame, finishOf}
 use Rattle.wavparts.specs.Words.{shifted, widthOf, isEndless}
 use Rattle.wav.specs.Recording.{two, four, Kind, pcm16, float32, tagOf, bytesIn, written, valueOf, Frame, frameBytes, Frames, Chunk, pad, chunkBytes, Others, Recording, alignOf, opening, formatChunk, dataHead, header, Proper, Tells, told, outs, after, samples}
 use Rattle.wav.specs.declared.wav.Wav as state

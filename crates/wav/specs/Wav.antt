@@ -2,8 +2,7 @@
 -- bytes, with one more behind an odd number. The chunk "fmt " gives the encoding, the chunk "data" the frames, each one sample for each
 -- channel. Numbers have their low byte first; a name is read as a number of four bytes too. Assumes nothing.
 use Prim.Native.Nat.{ℕ, _+_, _-_, _*_, _/_, _%_}
-use mathlib.Core.Bool.{Bool, true, false, _&&_}
-use mathlib.Core.List.{List, [], _∷_, _++_}
+use mathlib.Core.Bool.{Bool, true, false}
 use lib.Dec.{ltb, eqb}
 use Rattle.numeric.specs.F64.{if_then_else_}
 use Rattle.refusal.specs.Refusals.{rateRefused}

@@ -1,7 +1,7 @@
 -- Whole numbers over 32,768 as f32, and NaNs. Assumes nothing.
 use Prim.Native.Nat.{ℕ, suc, _*_, _^_, _≤_, _<_}
 use mathlib.Core.Path.{_≡_, refl, sym, ap, _∙_}
-use mathlib.Core.Bool.{Bool, true, false}
+use mathlib.Core.Bool.{true, false}
 use native.Mathlib.Nat.{lt-trans, mul-pos, mul-one, mul-assoc, mul-comm}
 use lib.Pow.{pow-pos, shl-lt, pow-lt}
 use native.Mathlib.Omega.{arith}

@@ -6,7 +6,6 @@ use native.Mathlib.Omega.{arith}
 use borrow.Author.Needs.{needs}
 use lib.ListN.{getD, take, length}
 use lib.Seq.{length-take-le}
-use Rattle.framing.specs.Frame.{frameOf}
 use Rattle.bitqueue.specs.Bits.{Joined}
 use Rattle.bitqueue.proofs.Ring.{none-joins, more-joins, take-more}
 use Rattle.bitqueue.proofs.push_frame.Statement.{statement}

@@ -7,9 +7,6 @@ use Rattle.tidetext.proofs.Blocks.{Going, going-start, going-on, going-
 use borrow.Author.Needs.{needs}
 use Rattle.tidetext.proofs.after_block.Statement.{statement}
 use Rattle.tidetext.proofs.after_block.Tie as tie
-use Rattle.tidetext.proofs.after_block.Reads as reads
-use Rattle.tidetext.proofs.after_block.Lts as lts
-use Rattle.tidetext.proofs.after_byte.Reads as after-byte-reads
 
 abbrev Inv-loop : tie.InvT-loop
 Inv-loop s r₀ i₀ r i =

@@ -3,11 +3,6 @@ use Rattle.tidetext.proofs.Blocks.{taken-end, taken-on}
 use borrow.Author.Needs.{needs}
 use Rattle.tidetext.proofs.after_byte.Statement.{statement}
 use Rattle.tidetext.proofs.after_byte.Tie as tie
-use Rattle.tidetext.proofs.after_byte.Reads as reads
-use Rattle.tidetext.proofs.after_byte.Lts as lts
-use Rattle.desk.proofs.desk.Desk.add_byte.Reads as add-byte-reads
-use Rattle.tidetext.proofs.one_more.Reads as one-more-reads
-use Rattle.tidetext.proofs.print_answer.Reads as print-answer-reads
 
 add-byte-requires : tie.Need-add-byte-requires
 add-byte-requires c κs = search needs

@@ -5,8 +5,6 @@ use Rattle.tidetext.proofs.Levels.{below, above}
 use borrow.Author.Needs.{needs}
 use Rattle.tidetext.proofs.magnitude.Statement.{statement}
 use Rattle.tidetext.proofs.magnitude.Tie as tie
-use Rattle.tidetext.proofs.magnitude.Reads as reads
-use Rattle.tidetext.proofs.magnitude.Lts as lts
 
 sub-k : tie.Need-sub-k
 sub-k c =

@@ -3,9 +3,6 @@ use Rattle.desk.specs.Held.{Sound}
 use borrow.Author.Needs.{needs}
 use Rattle.tidetext.proofs.read_all.Statement.{statement}
 use Rattle.tidetext.proofs.read_all.Tie as tie
-use Rattle.tidetext.proofs.read_all.Reads as reads
-use Rattle.tidetext.proofs.read_all.Lts as lts
-use Rattle.tidetext.proofs.read_block.Reads as read-block-reads
 
 abbrev Inv-loop : tie.InvT-loop
 Inv-loop r₀ turns₀ r turns =

@@ -6,10 +6,6 @@ use Rattle.desk.proofs.Stores.{held-set}
 use borrow.Author.Needs.{needs}
 use Rattle.desk.proofs.desk.counted.Statement.{statement}
 use Rattle.desk.proofs.desk.counted.Tie as tie
-use Rattle.desk.proofs.desk.counted.Reads as reads
-use Rattle.desk.proofs.desk.counted.Lts as lts
-use Rattle.desk.proofs.desk.one_more.Reads as one-more-reads
-use Rattle.desk.proofs.desk.place_of.Reads as place-of-reads
 
 place-of-requires : tie.Need-place-of-requires
 place-of-requires c κs = search needs

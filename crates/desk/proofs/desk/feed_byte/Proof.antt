@@ -3,9 +3,6 @@ use Rattle.desk.proofs.Bytewise.{byted-end, byted-on}
 use borrow.Author.Needs.{needs}
 use Rattle.desk.proofs.desk.feed_byte.Statement.{statement}
 use Rattle.desk.proofs.desk.feed_byte.Tie as tie
-use Rattle.desk.proofs.desk.feed_byte.Reads as reads
-use Rattle.desk.proofs.desk.feed_byte.Lts as lts
-use Rattle.desk.proofs.desk.Desk.add_byte.Reads as add-byte-reads
 
 add-byte-requires : tie.Need-add-byte-requires
 add-byte-requires c κs = search needs

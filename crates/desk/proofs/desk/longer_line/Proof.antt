@@ -3,8 +3,6 @@ use Rattle.desk.proofs.Bytewise.{longer-some, longer-none}
 use borrow.Author.Needs.{needs}
 use Rattle.desk.proofs.desk.longer_line.Statement.{statement}
 use Rattle.desk.proofs.desk.longer_line.Tie as tie
-use Rattle.desk.proofs.desk.longer_line.Reads as reads
-use Rattle.desk.proofs.desk.longer_line.Lts as lts
 
 array-write-s : tie.Need-array-write-s
 array-write-s c = search needs

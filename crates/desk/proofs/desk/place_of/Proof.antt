@@ -5,8 +5,6 @@ use Rattle.desk.specs.Desk.{place}
 use borrow.Author.Needs.{needs}
 use Rattle.desk.proofs.desk.place_of.Statement.{statement}
 use Rattle.desk.proofs.desk.place_of.Tie as tie
-use Rattle.desk.proofs.desk.place_of.Reads as reads
-use Rattle.desk.proofs.desk.place_of.Lts as lts
 
 returns : tie.Need-returns
 unfolding place

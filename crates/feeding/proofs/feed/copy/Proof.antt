@@ -1,12 +1,12 @@
 -- `feed::copy` meets its contract. The invariant: the output before i is the input's, and behind it as it came. Assumes nothing.
 use Rattle.numeric.specs.Loops.{over-turn}
-use lib.Seq.{length-front, length-take-le, take-length}
+use lib.Seq.{take-length}
 use lib.Ieee.{nan}
 use native.Mathlib.Omega.{arith}
-use mathlib.Core.Path.{_≡_, refl, sym, _∙_, ap}
-use Prim.Native.Nat.{ℕ, _-_, _≤_}
+use mathlib.Core.Path.{_≡_, refl, _∙_}
+use Prim.Native.Nat.{_-_, _≤_}
 use mathlib.Core.List.{_++_}
-use lib.ListN.{length, take, drop, length-append, length-set}
+use lib.ListN.{length, take, drop, length-set}
 use borrow.Author.Needs.{needs}
 use Rattle.feeding.proofs.feed.copy.Statement.{statement}
 use Rattle.feeding.proofs.feed.copy.Tie as tie

@@ -1,9 +1,9 @@
 -- `design::normalise` meets its contract. The invariant: the taps before i are divided, and those behind are as they came. Assumes nothing.
 use Rattle.numeric.specs.Loops.{map-turn, rest-turn, rest-first}
-use lib.Ieee.{Float, nan}
+use lib.Ieee.{nan}
 use native.Mathlib.Omega.{arith}
-use mathlib.Core.Path.{_≡_, refl, sym, _∙_, ap}
-use Prim.Native.Nat.{ℕ, _-_, _≤_}
+use mathlib.Core.Path.{_≡_, refl, ap}
+use Prim.Native.Nat.{_-_, _≤_}
 use lib.ListN.{length, take, drop, length-set}
 use Rattle.numeric.specs.F64.{_⊘_}
 use mathlib.Core.List.{map}

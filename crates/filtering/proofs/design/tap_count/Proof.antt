@@ -1,7 +1,6 @@
 -- `design::tap_count` meets its contract: the quotient is the definition's, and rates up to 48,000 bound it. Assumes nothing.
 use Prim.Native.Nat.{ℕ, _+_}
 use mathlib.Core.Path.{ap}
-use Rattle.numeric.specs.Counts.{tapCount}
 use native.Mathlib.Omega.{arith}
 use borrow.Author.Needs.{needs}
 use Rattle.filtering.proofs.design.tap_count.Statement.{statement}

@@ -2,10 +2,10 @@
 use native.Mathlib.Numerals.{unary-clauses}
 use Rattle.filtering.proofs.Ring.{sum-turn, sum-done}
 use native.Mathlib.Omega.{arith}
-use mathlib.Core.Path.{_≡_, refl, sym, _∙_}
+use mathlib.Core.Path.{_≡_, sym, _∙_}
 use Prim.Native.Nat.{_-_, _<_, _≤_}
-use lib.ListN.{length, take, drop}
-use Rattle.filtering.specs.FilterHeld.{walk, ringBack}
+use lib.ListN.{take, drop}
+use Rattle.filtering.specs.FilterHeld.{walk}
 use Rattle.filtering.specs.Filter.{sumFrom, filtered}
 use borrow.Author.Needs.{needs}
 use Rattle.filtering.proofs.filter.fir_sum.Statement.{statement}

@@ -2,7 +2,7 @@
 use native.Mathlib.Numerals.{unary-clauses}
 use Rattle.filtering.proofs.Ring.{sum-turn, sum-done, sum-later}
 use native.Mathlib.Omega.{arith}
-use mathlib.Core.Path.{_≡_, refl, sym, _∙_}
+use mathlib.Core.Path.{_≡_, sym, _∙_}
 use Prim.Native.Nat.{_+_, _-_, _<_, _≤_}
 use lib.ListN.{length, take, drop}
 use Rattle.filtering.specs.FilterHeld.{walk, ringBack}

@@ -3,7 +3,7 @@ use Rattle.board.specs.Plain.{Plain}
 use Rattle.bell103.specs.declared.Role.{Role}
 use native.Mathlib.Omega.{arith}
 use mathlib.Core.Path.{_≡_, refl, sym, _∙_}
-use Prim.Native.Nat.{ℕ, _+_, _≤_, _<_, _-_}
+use Prim.Native.Nat.{ℕ, _≤_, _<_, _-_}
 use Rattle.listentext.specs.Listener.{heardBytes, acted}
 use Rattle.listentext.proofs.Hearing.{first-heard, next-heard}
 use Rattle.listentext.specs.Ear.{EarSound}

@@ -1,8 +1,7 @@
 -- `rx::fresh_at` meets its contract, by those of its parts. Assumes nothing.
-use mathlib.Core.Path.{_≡_, ap, _∙_}
+use mathlib.Core.Path.{ap, _∙_}
 use Rattle.resampling.specs.Resample.{State}
 use Rattle.resampling.specs.ResampleHeld.{stateOf}
-use Rattle.demodulation.specs.DemodLaws.{fresh-tuned}
 use Rattle.modem.proofs.Receiving.{fresh-resampler, fresh-dst}
 use native.Mathlib.Omega.{arith}
 use Rattle.modem.specs.Rx.{freshReceiver, freshDemod}

@@ -3,11 +3,6 @@ use Rattle.modulation.proofs.Tones.{after-symbol, after-on}
 use borrow.Author.Needs.{needs}
 use Rattle.modulation.proofs.modulate.advance.Statement.{statement}
 use Rattle.modulation.proofs.modulate.advance.Tie as tie
-use Rattle.modulation.proofs.modulate.advance.Reads as reads
-use Rattle.modulation.proofs.modulate.advance.Lts as lts
-use Rattle.bell103.proofs.nco.turn.Reads as turn-reads
-use Rattle.bell103.proofs.samples_per_symbol.Reads as samples-per-symbol-reads
-use Rattle.modulation.proofs.modulate.next_symbol.Reads as next-symbol-reads
 
 -- src/modulate.rt:109:16
 turn-requires : tie.Need-turn-requires

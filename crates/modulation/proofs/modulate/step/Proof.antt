@@ -3,10 +3,6 @@ use Rattle.modulation.proofs.Tones.{once}
 use borrow.Author.Needs.{needs}
 use Rattle.modulation.proofs.modulate.step.Statement.{statement}
 use Rattle.modulation.proofs.modulate.step.Tie as tie
-use Rattle.modulation.proofs.modulate.step.Reads as reads
-use Rattle.modulation.proofs.modulate.step.Lts as lts
-use Rattle.numeric.proofs.sine.sine.Reads as sine-reads
-use Rattle.modulation.proofs.modulate.advance.Reads as advance-reads
 
 -- src/modulate.rt:133:9
 sine-requires : tie.Need-sine-requires

@@ -2,8 +2,6 @@ use Rattle.numeric.proofs.Narrow.{rounded}
 use borrow.Author.Needs.{needs}
 use Rattle.numeric.proofs.convert.nearest_even_29.Statement.{statement}
 use Rattle.numeric.proofs.convert.nearest_even_29.Tie as tie
-use Rattle.numeric.proofs.convert.nearest_even_29.Reads as reads
-use Rattle.numeric.proofs.convert.nearest_even_29.Lts as lts
 
 -- src/convert.rt:39:6
 add-result : tie.Need-add-result

@@ -1,5 +1,4 @@
 -- Bits below 2^63 leave room for what is added. Assumes nothing.
-use native.Mathlib.Omega.{arith}
 use borrow.Author.Needs.{needs}
 use Rattle.numeric.specs.Whole.{not-nan}
 use Rattle.numeric.proofs.Squares.{guess-number}

@@ -1,6 +1,5 @@
 -- Each line leaves sound states and the block its length. Assumes nothing.
 use mathlib.Core.Path.{_∙_}
-use native.Mathlib.Omega.{arith}
 use borrow.Author.Needs.{needs}
 use Rattle.replay.proofs.desk.run.Statement.{statement}
 use Rattle.replay.proofs.desk.run.Tie as tie

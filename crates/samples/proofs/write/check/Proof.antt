@@ -1,5 +1,5 @@
 -- `write::check` meets its contract: the tests are the definition's, in its order. Assumes nothing.
-use borrow.Author.Tests.{lt-ltb, le-ltb, not-true, not-false}
+use borrow.Author.Tests.{lt-ltb, le-ltb}
 use Rattle.refusal.specs.Refusals.{first}
 use Rattle.samples.specs.Write.{refusedBy}
 use borrow.Author.Needs.{needs}

@@ -3,8 +3,6 @@ use native.Mathlib.Omega.{arith}
 use borrow.Author.Needs.{needs}
 use Rattle.sendtext.proofs.call.bits_for.Statement.{statement}
 use Rattle.sendtext.proofs.call.bits_for.Tie as tie
-use Rattle.sendtext.proofs.call.bits_for.Reads as reads
-use Rattle.sendtext.proofs.call.bits_for.Lts as lts
 
 -- src/call.rt:34:5
 add-result : tie.Need-add-result

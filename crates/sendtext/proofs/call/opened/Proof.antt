@@ -2,11 +2,6 @@ use Rattle.sendtext.proofs.Asking.{opened-is}
 use borrow.Author.Needs.{needs}
 use Rattle.sendtext.proofs.call.opened.Statement.{statement}
 use Rattle.sendtext.proofs.call.opened.Tie as tie
-use Rattle.sendtext.proofs.call.opened.Reads as reads
-use Rattle.sendtext.proofs.call.opened.Lts as lts
-use Rattle.sending.proofs.tx.Tx.set_amplitude.Reads as set-amplitude-reads
-use Rattle.sending.proofs.tx.Tx.write.Reads as write-reads
-use Rattle.sending.proofs.tx.Tx.write_idle_mark.Reads as write-idle-mark-reads
 
 -- src/call.rt:47:9
 set-amplitude-requires : tie.Need-set-amplitude-requires

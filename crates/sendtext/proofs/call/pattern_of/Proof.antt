@@ -2,8 +2,6 @@ use Rattle.numeric.specs.Whole.{not-nan}
 use borrow.Author.Needs.{needs}
 use Rattle.sendtext.proofs.call.pattern_of.Statement.{statement}
 use Rattle.sendtext.proofs.call.pattern_of.Tie as tie
-use Rattle.sendtext.proofs.call.pattern_of.Reads as reads
-use Rattle.sendtext.proofs.call.pattern_of.Lts as lts
 
 -- src/call.rt:103:9
 returns : tie.Need-returns

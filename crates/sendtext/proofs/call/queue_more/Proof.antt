@@ -6,11 +6,6 @@ use Rattle.sendtext.proofs.Asking.{part-is, part-length, queued-yes, qu
 use borrow.Author.Needs.{needs}
 use Rattle.sendtext.proofs.call.queue_more.Statement.{statement}
 use Rattle.sendtext.proofs.call.queue_more.Tie as tie
-use Rattle.sendtext.proofs.call.queue_more.Reads as reads
-use Rattle.sendtext.proofs.call.queue_more.Lts as lts
-use Rattle.sending.proofs.tx.Tx.write.Reads as write-reads
-use Rattle.sendtext.proofs.call.end_of.Reads as end-of-reads
-use Rattle.sendtext.proofs.call.is_accepted.Reads as is-accepted-reads
 
 -- src/call.rt:82:9
 end-of-requires : tie.Need-end-of-requires

@@ -1,15 +1,11 @@
 use lib.ListN.{length}
 use Prim.Native.Nat.{_≤_}
-use mathlib.Core.Path.{_≡_, sym}
+use mathlib.Core.Path.{sym}
 use lib.Seq.{length-take-le}
 use native.Mathlib.Omega.{arith}
 use borrow.Author.Needs.{needs}
 use Rattle.sendtext.proofs.call.send_block.Statement.{statement}
 use Rattle.sendtext.proofs.call.send_block.Tie as tie
-use Rattle.sendtext.proofs.call.send_block.Reads as reads
-use Rattle.sendtext.proofs.call.send_block.Lts as lts
-use Rattle.sendtext.proofs.call.send_part.Reads as send-part-reads
-use Rattle.sendtext.proofs.call.zeros_1024.Reads as zeros-1024-reads
 
 -- src/call.rt:153:21
 zeros-1024-requires : tie.Need-zeros-1024-requires

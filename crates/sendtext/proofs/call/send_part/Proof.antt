@@ -2,11 +2,6 @@ use Rattle.sendtext.proofs.Asking.{block-is}
 use borrow.Author.Needs.{needs}
 use Rattle.sendtext.proofs.call.send_part.Statement.{statement}
 use Rattle.sendtext.proofs.call.send_part.Tie as tie
-use Rattle.sendtext.proofs.call.send_part.Reads as reads
-use Rattle.sendtext.proofs.call.send_part.Lts as lts
-use Rattle.sending.proofs.tx.Tx.read.Reads as read-reads
-use Rattle.sendtext.proofs.call.queue_more.Reads as queue-more-reads
-use Rattle.sendtext.proofs.call.write_samples.Reads as write-samples-reads
 
 -- src/call.rt:145:9
 queue-more-requires : tie.Need-queue-more-requires

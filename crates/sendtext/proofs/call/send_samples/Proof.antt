@@ -5,10 +5,6 @@ use Prim.Native.Nat.{_≤_}
 use borrow.Author.Needs.{needs}
 use Rattle.sendtext.proofs.call.send_samples.Statement.{statement}
 use Rattle.sendtext.proofs.call.send_samples.Tie as tie
-use Rattle.sendtext.proofs.call.send_samples.Reads as reads
-use Rattle.sendtext.proofs.call.send_samples.Lts as lts
-use Rattle.sendtext.proofs.call.block_of.Reads as block-of-reads
-use Rattle.sendtext.proofs.call.send_block.Reads as send-block-reads
 
 abbrev Inv-loop : tie.InvT-loop
 Inv-loop text samples s₀ left₀ s left = TxSound (s .tx) × (s .at ≤ length text)

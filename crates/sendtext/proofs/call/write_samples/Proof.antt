@@ -6,11 +6,6 @@ use Prim.Native.Nat.{_≤_, _-_}
 use borrow.Author.Needs.{needs}
 use Rattle.sendtext.proofs.call.write_samples.Statement.{statement}
 use Rattle.sendtext.proofs.call.write_samples.Tie as tie
-use Rattle.sendtext.proofs.call.write_samples.Reads as reads
-use Rattle.sendtext.proofs.call.write_samples.Lts as lts
-use Rattle.io.proofs.buffer.Reads as buffer-reads
-use Rattle.io.proofs.write_all.Reads as write-all-reads
-use Rattle.sendtext.proofs.call.put_float.Reads as put-float-reads
 
 abbrev Inv-loop : tie.InvT-loop
 Inv-loop samples bytes₀ i₀ bytes i = (i ≤ length samples) × (length bytes ≡ 4096)

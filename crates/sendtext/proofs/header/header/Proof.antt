@@ -4,12 +4,6 @@ use Rattle.wav.specs.Recording.{header, opening, formatChunk, dataHead, four, t
 use borrow.Author.Needs.{needs}
 use Rattle.sendtext.proofs.header.header.Statement.{statement}
 use Rattle.sendtext.proofs.header.header.Tie as tie
-use Rattle.sendtext.proofs.header.header.Reads as reads
-use Rattle.sendtext.proofs.header.header.Lts as lts
-use Rattle.sendtext.proofs.header.byte_0.Reads as byte-0-reads
-use Rattle.sendtext.proofs.header.byte_1.Reads as byte-1-reads
-use Rattle.sendtext.proofs.header.byte_2.Reads as byte-2-reads
-use Rattle.sendtext.proofs.header.byte_3.Reads as byte-3-reads
 
 -- src/header.rt:36:16
 mul-size : tie.Need-mul-size

@@ -3,9 +3,6 @@ use borrow.Author.Tests.{eq-eqb, ne-eqb}
 use borrow.Author.Needs.{needs}
 use Rattle.sendtext.proofs.words.ask.Statement.{statement}
 use Rattle.sendtext.proofs.words.ask.Tie as tie
-use Rattle.sendtext.proofs.words.ask.Reads as reads
-use Rattle.sendtext.proofs.words.ask.Lts as lts
-use Rattle.sendtext.proofs.words.ask_rate.Reads as ask-rate-reads
 
 -- src/words.rt:36:9
 returns : tie.Need-returns

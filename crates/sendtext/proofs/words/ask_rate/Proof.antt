@@ -3,9 +3,6 @@ use mathlib.Core.Path.{refl, sym}
 use borrow.Author.Needs.{needs}
 use Rattle.sendtext.proofs.words.ask_rate.Statement.{statement}
 use Rattle.sendtext.proofs.words.ask_rate.Tie as tie
-use Rattle.sendtext.proofs.words.ask_rate.Reads as reads
-use Rattle.sendtext.proofs.words.ask_rate.Lts as lts
-use Rattle.refusal.proofs.rate_ok.Reads as rate-ok-reads
 
 -- src/words.rt:25:8
 rate-ok-requires : tie.Need-rate-ok-requires

@@ -4,9 +4,6 @@ use Rattle.tide.specs.Frame.{levelOf}
 use borrow.Author.Needs.{needs}
 use Rattle.tide.proofs.frame.level_bits.Statement.{statement}
 use Rattle.tide.proofs.frame.level_bits.Tie as tie
-use Rattle.tide.proofs.frame.level_bits.Reads as reads
-use Rattle.tide.proofs.frame.level_bits.Lts as lts
-use Rattle.tide.proofs.hex.byte.Reads as byte-reads
 
 byte-requires : tie.Need-byte-requires
 byte-requires c κs = search needs

@@ -11,8 +11,6 @@ use Rattle.tide.specs.Frame.{signed}
 use borrow.Author.Needs.{needs}
 use Rattle.tide.proofs.frame.level_of.Statement.{statement}
 use Rattle.tide.proofs.frame.level_of.Tie as tie
-use Rattle.tide.proofs.frame.level_of.Reads as reads
-use Rattle.tide.proofs.frame.level_of.Lts as lts
 
 cast-result : tie.Need-cast-result
 cast-result c = search needs

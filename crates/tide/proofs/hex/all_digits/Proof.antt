@@ -8,9 +8,6 @@ use borrow.Author.Needs.{needs}
 use Rattle.tide.specs.Hex.{allHex}
 use Rattle.tide.proofs.hex.all_digits.Statement.{statement}
 use Rattle.tide.proofs.hex.all_digits.Tie as tie
-use Rattle.tide.proofs.hex.all_digits.Reads as reads
-use Rattle.tide.proofs.hex.all_digits.Lts as lts
-use Rattle.tide.proofs.hex.digit.Reads as digit-reads
 
 abbrev Inv-loop : tie.InvT-loop
 Inv-loop s i₀ i =

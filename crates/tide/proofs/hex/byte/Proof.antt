@@ -10,9 +10,6 @@ use Prim.Native.Nat.{ℕ, _+_, _*_}
 use borrow.Author.Needs.{needs}
 use Rattle.tide.proofs.hex.byte.Statement.{statement}
 use Rattle.tide.proofs.hex.byte.Tie as tie
-use Rattle.tide.proofs.hex.byte.Reads as reads
-use Rattle.tide.proofs.hex.byte.Lts as lts
-use Rattle.tide.proofs.hex.digit.Reads as digit-reads
 
 mul-digit : tie.Need-mul-digit
 mul-digit c = search needs

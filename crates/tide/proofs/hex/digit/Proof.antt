@@ -5,8 +5,6 @@ use Rattle.tide.specs.Hex.{hex}
 use borrow.Author.Needs.{needs}
 use Rattle.tide.proofs.hex.digit.Statement.{statement}
 use Rattle.tide.proofs.hex.digit.Tie as tie
-use Rattle.tide.proofs.hex.digit.Reads as reads
-use Rattle.tide.proofs.hex.digit.Lts as lts
 
 returns : tie.Need-returns
 unfolding hex

@@ -11,9 +11,6 @@ use Rattle.tide.proofs.Places.{total-step, total-end}
 use Rattle.tide.specs.HexLaws.{length-unhex}
 use Rattle.tide.proofs.hex.sum.Statement.{statement}
 use Rattle.tide.proofs.hex.sum.Tie as tie
-use Rattle.tide.proofs.hex.sum.Reads as reads
-use Rattle.tide.proofs.hex.sum.Lts as lts
-use Rattle.tide.proofs.hex.byte.Reads as byte-reads
 
 abbrev Inv-loop : tie.InvT-loop
 Inv-loop s n t₀ i₀ t i =

@@ -4,8 +4,6 @@ use Rattle.tide.specs.Judge.{ofFields}
 use Rattle.refusal.specs.Refusals.{first}
 use Rattle.tide.proofs.judge.fields_number.Statement.{statement}
 use Rattle.tide.proofs.judge.fields_number.Tie as tie
-use Rattle.tide.proofs.judge.fields_number.Reads as reads
-use Rattle.tide.proofs.judge.fields_number.Lts as lts
 
 returns : tie.Need-returns
 unfolding ofFields first

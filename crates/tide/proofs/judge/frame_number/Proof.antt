@@ -11,16 +11,6 @@ use Rattle.tide.proofs.Checks.{is-14, is-15, is-16, is-17, is-18}
 use borrow.Author.Needs.{needs}
 use Rattle.tide.proofs.judge.frame_number.Statement.{statement}
 use Rattle.tide.proofs.judge.frame_number.Tie as tie
-use Rattle.tide.proofs.judge.frame_number.Reads as reads
-use Rattle.tide.proofs.judge.frame_number.Lts as lts
-use Rattle.tide.proofs.frame.age_of.Reads as age-of-reads
-use Rattle.tide.proofs.hex.byte.Reads as byte-reads
-use Rattle.tide.proofs.judge.fields_number.Reads as fields-number-reads
-use Rattle.tide.proofs.frame.level_bits.Reads as level-bits-reads
-use Rattle.tide.proofs.judge.misfit.Reads as misfit-reads
-use Rattle.tide.proofs.frame.stamp_of.Reads as stamp-of-reads
-use Rattle.tide.proofs.frame.station_of.Reads as station-of-reads
-use Rattle.tide.proofs.hex.sum.Reads as sum-reads
 
 says : (c : tie.Else1) → getD (unhex (now (c .before .before .before .args .s))) 2 0 ≡ length (unhex (now (c .before .before .before .args .s)))
 says c = omega (arith, length-unhex (now (c .before .before .before .args .s)), c .before .byte .ensures .0)

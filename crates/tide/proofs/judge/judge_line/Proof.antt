@@ -10,14 +10,6 @@ use Rattle.tide.proofs.Checks.{good-line, GoodLine, settle-bad}
 use borrow.Author.Needs.{needs}
 use Rattle.tide.proofs.judge.judge_line.Statement.{statement}
 use Rattle.tide.proofs.judge.judge_line.Tie as tie
-use Rattle.tide.proofs.judge.judge_line.Reads as reads
-use Rattle.tide.proofs.judge.judge_line.Lts as lts
-use Rattle.tide.proofs.frame.age_of.Reads as age-of-reads
-use Rattle.tide.proofs.frame.level_bits.Reads as level-bits-reads
-use Rattle.tide.proofs.frame.level_of.Reads as level-of-reads
-use Rattle.tide.proofs.judge.line_number.Reads as line-number-reads
-use Rattle.tide.proofs.judge.settled.Reads as settled-reads
-use Rattle.tide.proofs.frame.stamp_of.Reads as stamp-of-reads
 
 good : (c : tie.Else1) → GoodLine (now (c .before .before .before .args .s))
 good c =

@@ -7,10 +7,6 @@ use Rattle.refusal.specs.Refusals.{first}
 use borrow.Author.Needs.{needs}
 use Rattle.tide.proofs.judge.line_number.Statement.{statement}
 use Rattle.tide.proofs.judge.line_number.Tie as tie
-use Rattle.tide.proofs.judge.line_number.Reads as reads
-use Rattle.tide.proofs.judge.line_number.Lts as lts
-use Rattle.tide.proofs.hex.all_digits.Reads as all-digits-reads
-use Rattle.tide.proofs.judge.frame_number.Reads as frame-number-reads
 
 returns : tie.Need-returns
 unfolding ofLine first

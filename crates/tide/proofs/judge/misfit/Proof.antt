@@ -2,8 +2,6 @@
 use borrow.Author.Tests.{lt-ltb, le-ltb, eq-eqb, ne-eqb}
 use Rattle.tide.proofs.judge.misfit.Statement.{statement}
 use Rattle.tide.proofs.judge.misfit.Tie as tie
-use Rattle.tide.proofs.judge.misfit.Reads as reads
-use Rattle.tide.proofs.judge.misfit.Lts as lts
 
 returns : tie.Need-returns
 returns c =

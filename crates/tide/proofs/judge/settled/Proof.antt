@@ -7,8 +7,6 @@ use Rattle.tide.specs.Judge.{settle, later}
 use borrow.Author.Needs.{needs}
 use Rattle.tide.proofs.judge.settled.Statement.{statement}
 use Rattle.tide.proofs.judge.settled.Tie as tie
-use Rattle.tide.proofs.judge.settled.Reads as reads
-use Rattle.tide.proofs.judge.settled.Lts as lts
 
 returns : tie.Need-returns
 unfolding settle

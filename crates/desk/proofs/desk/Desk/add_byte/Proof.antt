@@ -2,10 +2,6 @@
 use borrow.Author.Needs.{needs}
 use Rattle.desk.proofs.desk.Desk.add_byte.Statement.{statement}
 use Rattle.desk.proofs.desk.Desk.add_byte.Tie as tie
-use Rattle.desk.proofs.desk.Desk.add_byte.Reads as reads
-use Rattle.desk.proofs.desk.Desk.add_byte.Lts as lts
-use Rattle.desk.proofs.desk.Desk.end_line.Reads as end-line-reads
-use Rattle.desk.proofs.desk.Desk.grow.Reads as grow-reads
 
 end-line-requires : tie.Need-end-line-requires
 end-line-requires c κs = search needs

@@ -5,9 +5,6 @@ use Rattle.desk.proofs.Stores.{getD-out}
 use borrow.Author.Needs.{needs}
 use Rattle.desk.proofs.desk.Desk.count.Statement.{statement}
 use Rattle.desk.proofs.desk.Desk.count.Tie as tie
-use Rattle.desk.proofs.desk.Desk.count.Reads as reads
-use Rattle.desk.proofs.desk.Desk.count.Lts as lts
-use Rattle.desk.proofs.desk.place_of.Reads as place-of-reads
 
 place-of-requires : tie.Need-place-of-requires
 place-of-requires c κs = search needs

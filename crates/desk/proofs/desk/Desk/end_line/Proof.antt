@@ -8,10 +8,6 @@ use Rattle.desk.proofs.Bytewise.{stepped-end}
 use borrow.Author.Needs.{needs}
 use Rattle.desk.proofs.desk.Desk.end_line.Statement.{statement}
 use Rattle.desk.proofs.desk.Desk.end_line.Tie as tie
-use Rattle.desk.proofs.desk.Desk.end_line.Reads as reads
-use Rattle.desk.proofs.desk.Desk.end_line.Lts as lts
-use Rattle.desk.proofs.desk.counted.Reads as counted-reads
-use Rattle.tide.proofs.judge.judge_line.Reads as judge-line-reads
 
 array-share-prefix-ch : tie.Need-array-share-prefix-ch
 array-share-prefix-ch c = search needs

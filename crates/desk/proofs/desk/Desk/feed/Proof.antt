@@ -6,9 +6,6 @@ use borrow.Author.Needs.{needs}
 use Rattle.desk.proofs.Bytewise.{Going, going-start, going-on, going-end}
 use Rattle.desk.proofs.desk.Desk.feed.Statement.{statement}
 use Rattle.desk.proofs.desk.Desk.feed.Tie as tie
-use Rattle.desk.proofs.desk.Desk.feed.Reads as reads
-use Rattle.desk.proofs.desk.Desk.feed.Lts as lts
-use Rattle.desk.proofs.desk.feed_byte.Reads as feed-byte-reads
 
 abbrev Inv-loop : tie.InvT-loop
 Inv-loop s f₀ i₀ f i =

@@ -3,9 +3,6 @@ use Rattle.desk.proofs.Bytewise.{stepped-on}
 use borrow.Author.Needs.{needs}
 use Rattle.desk.proofs.desk.Desk.grow.Statement.{statement}
 use Rattle.desk.proofs.desk.Desk.grow.Tie as tie
-use Rattle.desk.proofs.desk.Desk.grow.Reads as reads
-use Rattle.desk.proofs.desk.Desk.grow.Lts as lts
-use Rattle.desk.proofs.desk.longer_line.Reads as longer-line-reads
 
 longer-line-requires : tie.Need-longer-line-requires
 longer-line-requires c κs = search needs

@@ -5,8 +5,6 @@ use Rattle.desk.specs.Desk.{freshDesk}
 use Rattle.desk.specs.Held.{held}
 use Rattle.desk.proofs.desk.Desk.new.Statement.{statement}
 use Rattle.desk.proofs.desk.Desk.new.Tie as tie
-use Rattle.desk.proofs.desk.Desk.new.Reads as reads
-use Rattle.desk.proofs.desk.Desk.new.Lts as lts
 
 returns : tie.Need-returns
 unfolding freshDesk held

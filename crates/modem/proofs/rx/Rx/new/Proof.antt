@@ -2,7 +2,7 @@
 use Rattle.modem.specs.Rx.{newOf}
 use Rattle.refusal.specs.Refusals.{rateRefused}
 use mathlib.Core.Bool.{not}
-use mathlib.Core.Path.{_≡_, refl, sym, ap, _∙_}
+use mathlib.Core.Path.{refl, sym, ap, _∙_}
 use borrow.Author.Needs.{needs}
 use Rattle.modem.proofs.rx.Rx.new.Statement.{statement}
 use Rattle.modem.proofs.rx.Rx.new.Tie as tie

@@ -4,8 +4,9 @@ use Rattle.refusal.specs.Refusals.{replyOf}
 use Rattle.samples.specs.Write.{refusedBy}
 use Rattle.modem.specs.RxHeld.{receiverOf}
 use Rattle.queues.specs.QueueLaws.{queued-length}
-use mathlib.Core.Path.{_≡_, sym, ap, _∙_}
-use Rattle.modem.proofs.Receiving.{accepted-none, went-through, stopped}
+use mathlib.Core.Path.{sym, ap, _∙_}
+use Rattle.refusal.specs.Refusals.{accepted-none}
+use Rattle.modem.proofs.Receiving.{went-through, stopped}
 use borrow.Author.Needs.{needs}
 use Rattle.modem.proofs.rx.Rx.write.Statement.{statement}
 use Rattle.modem.proofs.rx.Rx.write.Tie as tie

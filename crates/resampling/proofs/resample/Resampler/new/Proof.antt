@@ -1,7 +1,7 @@
 -- `Resampler::new` meets its contract: the test of the rates is the definition's. Assumes nothing.
 use Rattle.resampling.specs.Resample.{newOf}
-use mathlib.Core.Bool.{not, true, false}
-use mathlib.Core.Path.{_≡_, sym, ap, _∙_}
+use mathlib.Core.Bool.{not}
+use mathlib.Core.Path.{sym, ap, _∙_}
 use Rattle.resampling.proofs.Answers.{in-range}
 use borrow.Author.Needs.{needs}
 use Rattle.resampling.proofs.resample.Resampler.new.Statement.{statement}

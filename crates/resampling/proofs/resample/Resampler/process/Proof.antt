@@ -1,6 +1,6 @@
 -- `Resampler::process` meets its contract: each return is one of the definition's cases. Assumes nothing.
 use mathlib.Core.Path.{_≡_, sym, ap, _∙_}
-use Rattle.resampling.specs.Resample.{maxOutputLen, filterOf, tapsOf}
+use Rattle.resampling.specs.Resample.{maxOutputLen, filterOf}
 use native.Mathlib.Omega.{arith}
 use Rattle.resampling.specs.ResampleHeld.{stateOf}
 use Rattle.feeding.specs.FlowHeld.{flowOf, filterIn}

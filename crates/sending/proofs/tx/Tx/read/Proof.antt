@@ -1,5 +1,6 @@
 -- `Tx::read` meets its contract: a read that no check refuses fills the slice, and any other changes nothing. Assumes nothing.
-use Rattle.sending.proofs.Calls.{accepted-none, none-refused, read-filled, read-refused, above}
+use Rattle.refusal.specs.Refusals.{accepted-none}
+use Rattle.sending.proofs.Calls.{none-refused, read-filled, read-refused, above}
 use borrow.Author.Tests.{not-true, not-false}
 use mathlib.Core.Path.{sym, _∙_}
 use native.Mathlib.Omega.{arith}

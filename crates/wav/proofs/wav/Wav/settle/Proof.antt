@@ -1,7 +1,5 @@
 -- The tests pick the case. Assumes nothing.
 use native.Mathlib.Omega.{arith}
-use Prim.Native.Nat.{ℕ, _≤_}
-use mathlib.Core.Path.{subst}
 use Rattle.wav.proofs.Places.{width-few, frame-fits}
 use borrow.Author.Tests.{eq-eqb, ne-eqb}
 use mathlib.Core.Path.{sym, _∙_}
