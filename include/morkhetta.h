@@ -3,8 +3,8 @@
  *
  * Each function runs a whole list of calls from a fresh state and keeps nothing
  * afterwards. What it answers, and all memory that it is lent, are proved equal
- * to a definition for every argument (specs/ of the crates calls, states,
- * sendcalls and ffi); the text below says that definition in words. A function
+ * to a definition for every argument (specs/ of the crates calls, snapshot and
+ * ffi); the text below says that definition in words. A function
  * never fails, and any number may be passed. The host answers for the pointers
  * alone:
  *

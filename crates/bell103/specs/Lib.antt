@@ -1,3 +1,2 @@
--- The definitions that the contracts of `bell103` cite, and the theorems about them.
+-- The definitions that the contracts of `bell103` cite.
 pub mod Roles
-pub mod Nco

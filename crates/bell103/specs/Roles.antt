@@ -1,7 +1,6 @@
 -- Rates, roles and tones. Assumes nothing.
 use Prim.Native.Nat.{ℕ}
 use Rattle.refusal.specs.Refusals.{dspRate}
-use mathlib.Core.Path.{_≡_, refl}
 use lib.Ieee.{Float}
 use Rattle.numeric.specs.F64.{_⊘_, whole}
 use Rattle.bell103.specs.declared.Role.{Role}
@@ -20,11 +19,6 @@ samplesPerSymbol = whole dspRate ⊘ whole baud
 abbrev pub otherRole : Role → Role
 otherRole Originate = Answer
 otherRole Answer = Originate
-
--- the other of the other is the role itself
-pub other-other : (r : Role) → otherRole (otherRole r) ≡ r
-other-other Originate = refl
-other-other Answer = refl
 
 -- the tones that a role sends, in hertz: those of Bell 103
 unfoldable pub tonesOf : Role → TonePair

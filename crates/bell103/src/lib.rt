@@ -1,9 +1,7 @@
-// Bell 103: roles, symbol rate and tones; and below them the oscillator.
+// Bell 103: roles, symbol rate and tones.
 ghost use mathlib.Core.Path.{_≡_};
 ghost use Rattle.bell103.specs.Roles.{otherRole, tonesOf, samplesPerSymbol};
 use refusal::DSP_RATE;
-
-pub mod nco;
 
 // Bell 103 symbol rate, in symbols a second.
 pub const BAUD: u32 = 300;

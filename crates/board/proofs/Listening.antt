@@ -9,10 +9,10 @@ use Rattle.bell103.specs.declared.Role.{Role}
 use Rattle.refusal.specs.declared.Refusal.{Refusal}
 use Rattle.refusal.specs.declared.Acceptance.the-variants.{Accepted, Refused}
 use Rattle.board.specs.Plain.{fresh, answersAll}
-use Rattle.board.specs.Held.{Makes}
+use Rattle.board.specs.BoardRep.{Makes}
 use Rattle.board.specs.Runs.{writesOf, RunFrom, Listens}
-use Rattle.board.specs.Third.{third}
-use Rattle.board.specs.Hosted.{new-accepted, new-refused, fresh-made}
+use Rattle.board.proofs.Third.{third}
+use Rattle.board.proofs.HostedLaws.{new-accepted, new-refused, fresh-made}
 use Rattle.board.specs.declared.board.Created.{Created}
 use Rattle.board.specs.declared.writes.Listened.{Listened}
 

@@ -10,44 +10,44 @@ use lib.ListN.{length, getD, take, drop, take-append-drop}
 use lib.Seq.{drop-cons, drop-drop, drop-length, length-take-le, getD-take}
 use lib.Ieee.{Float}
 use Rattle.refusal.specs.declared.Acceptance.the-variants.{Accepted}
-use Rattle.numeric.specs.Parts.{take-behind, drop-behind, part-next, part-left}
+use Rattle.numeric.proofs.Parts.{take-behind, drop-behind, part-next, part-left}
 use Rattle.board.specs.Plain.{Plain, Answer, refused, heard, answer, afterAll, answersAll, eventsAll}
-use Rattle.board.specs.Held.{plainOf, eventsIn, answerOf, BoardSound, Writes}
+use Rattle.board.specs.BoardRep.{plainOf, eventsIn, answerOf, BoardSound, Writes}
 use Rattle.board.specs.Runs.{writesOf, numbersOf, numbersAll, writesRun, Within, Stepped, RunFrom}
 use Rattle.board.specs.declared.board.Board.{Board}
 use Rattle.board.specs.declared.board.Written.{Written}
 use Rattle.board.specs.declared.writes.Place.{Place}
-use Rattle.boardparts.specs.declared.told.Told.{Told}
+use Rattle.board.specs.declared.numbers.Numbers.{Numbers}
 
 -- ---- one write: the samples up to e are lent, and its answer's numbers are written
-pub steps : (p : Place) (n e : ℕ) (s : List Float) (w : Written) (t : Told) (at : ℕ) (a a′ : List ℕ)
+pub steps : (p : Place) (n e : ℕ) (s : List Float) (w : Written) (t : Numbers) (at : ℕ) (a a′ : List ℕ)
     → e ≡ p .read + min n (length s - p .read) → e ≤ length s
     → Writes (p .board) (take (e - p .read) (drop (p .read) s)) w
     → t .number ∷ t .bytes ∷ t .lines ∷ t .last ∷ [] ≡ numbersOf (answerOf (w .answer))
     → a′ ≡ take at a ++ (t .number ∷ t .bytes ∷ t .lines ∷ t .last ∷ drop (at + 4) a)
     → Stepped p (record { board = w .state; read = e }) n s at a a′
-steps p n e s w t at a a′ is fits writes told put =
+steps p n e s w t at a a′ is fits writes numbers put =
     let k = part-next s (p .read) n e is in
     record {
       state = rw (← k) (writes .state);
       events = rw (← k) (writes .events);
       left = part-left s (p .read) n e is;
-      answers = rw (← k, ← writes .answer, ← told) put;
+      answers = rw (← k, ← writes .answer, ← numbers) put;
       within = record { sound = writes .sound; read = fits };
     }
 
 -- ---- part of the way: after i writes of the lengths ns, at p, with the answers a in the place of a₀; what the rest does on p is what all do on b₀
-pub record Going (b₀ : Plain) (noted : List Bool) (s : List Float) (ns a₀ : List ℕ) (i : ℕ) (p : Place) (a : List ℕ) : Type 0 where
+pub record Going (b₀ : Plain) (logged : List Bool) (s : List Float) (ns a₀ : List ℕ) (i : ℕ) (p : Place) (a : List ℕ) : Type 0 where
   pub within : Within p s
   pub board : afterAll (plainOf (p .board)) (writesOf (drop (p .read) s) (drop i ns)) ≡ afterAll b₀ (writesOf s ns)
   pub answers : take (4 * i) a ++ numbersAll (answersAll (plainOf (p .board)) (writesOf (drop (p .read) s) (drop i ns))) ≡ numbersAll (answersAll b₀ (writesOf s ns))
   pub rest : drop (4 * i) a ≡ drop (4 * i) a₀
-  pub events : eventsAll (plainOf (p .board)) (eventsIn (p .board)) (writesOf (drop (p .read) s) (drop i ns)) ≡ eventsAll b₀ noted (writesOf s ns)
+  pub events : eventsAll (plainOf (p .board)) (eventsIn (p .board)) (writesOf (drop (p .read) s) (drop i ns)) ≡ eventsAll b₀ logged (writesOf s ns)
 
 pub going-start : (b : Board) (s : List Float) (ns a : List ℕ) → BoardSound b → Going (plainOf b) (eventsIn b) s ns a 0 (record { board = b; read = 0 }) a
 going-start b s ns a k = record { within = record { sound = k; read = zero-le }; board = refl; answers = refl; rest = refl; events = refl }
 
-module _ (b₀ : Plain) (noted : List Bool) (s : List Float) (ns a₀ : List ℕ) (i : ℕ) (p q : Place) (a a′ : List ℕ) (some : i < length ns) (room : 4 * i + 4 ≤ length a)
+module _ (b₀ : Plain) (logged : List Bool) (s : List Float) (ns a₀ : List ℕ) (i : ℕ) (p q : Place) (a a′ : List ℕ) (some : i < length ns) (room : 4 * i + 4 ≤ length a)
     (step : Stepped p q (getD ns i 0) s (4 * i) a a′) where
   abbrev gave : Answer
   gave = answer (plainOf (p .board)) (take (getD ns i 0) (drop (p .read) s))
@@ -78,7 +78,7 @@ module _ (b₀ : Plain) (noted : List Bool) (s : List Float) (ns a₀ : List ℕ
   next : drop i ns ≡ getD ns i 0 ∷ drop (i + 1) ns
   next = rw (add-one i) (drop-cons ns i 0 some)
 
-  pub going-on : Going b₀ noted s ns a₀ i p a → Going b₀ noted s ns a₀ (i + 1) q a′
+  pub going-on : Going b₀ logged s ns a₀ i p a → Going b₀ logged s ns a₀ (i + 1) q a′
   unfolding writesOf afterAll eventsAll answersAll numbersAll
   going-on g =
       record {

@@ -7,36 +7,38 @@ use native.Mathlib.Omega.{arith}
 use lib.Dec.{eqb}
 use lib.ListN.{length, take}
 use lib.Ieee.{Float}
-use Rattle.numeric.specs.F64.{if_then_else_}
-use Rattle.refusal.specs.Refusals.{acceptanceOf, replyOf, first, first-yes, first-no, rateRefused}
+use Rattle.numeric.specs.If.{if_then_else_}
+use Rattle.refusal.specs.Refusals.{acceptanceOf, replyOf, first, rateRefused}
+use Rattle.refusal.proofs.RefusalLaws.{first-yes, first-no}
 use Rattle.framing.specs.Framing as framing
 use Rattle.modem.specs.Rx as rx
-use Rattle.samples.specs.Write.{refusedBy}
-use Rattle.modem.specs.RxHeld.{receiverOf, RxSound}
-use Rattle.modem.specs.RxLaws.{heard-few, fresh-idle}
-use Rattle.modem.specs.RxCalls.{Accepts, ReadsAll, sound-listens, sound-few, sound-count, admitted, new-is, fresh-is, write-accepts, write-refuses, reads-all}
+use Rattle.modem.specs.Write.{refusedBy}
+use Rattle.modem.specs.RxRep.{receiverOf, RxSound}
+use Rattle.modem.proofs.RxLaws.{heard-few, fresh-idle}
+use Rattle.modem.proofs.RxCalls.{sound-listens, sound-few, sound-count, new-is, fresh-is, write-accepts, write-refuses, reads-all}
+use Rattle.modem.specs.Rx.{Accepts, ReadsAll, admitted}
 use Rattle.bell103.specs.declared.Role.{Role}
 use Rattle.refusal.specs.declared.Refusal.{Refusal}
 use Rattle.refusal.specs.declared.Refusal.the-variants.{Station}
 use Rattle.refusal.specs.declared.Acceptance.{Acceptance}
 use Rattle.refusal.specs.declared.Acceptance.the-variants.{Accepted, Refused}
 use Rattle.modem.specs.declared.rx.Rx.{Rx}
-use Rattle.tide.specs.Frame.{total}
-use Rattle.desk.specs.Desk as tide
-use Rattle.desk.specs.DeskLaws.{holds-bytes}
-use Rattle.desk.specs.Held as desks
-use Rattle.desk.specs.declared.desk.Desk.{Desk}
-use Rattle.desk.specs.declared.desk.Fed.{Fed}
-use Rattle.boardparts.specs.Station.{checked}
+use Rattle.hexadecimal.specs.Hex.{total}
+use Rattle.tide.specs.Decoder as tide
+use Rattle.tide.proofs.DecoderLaws.{holds-bytes}
+use Rattle.tide.specs.DecoderRep as decoders
+use Rattle.tide.specs.declared.decoder.Decoder.{Decoder}
+use Rattle.tide.specs.declared.decoder.Fed.{Fed}
+use Rattle.board.specs.Station.{checked}
 use Rattle.board.specs.Plain as plain
-use Rattle.board.specs.PlainLaws.{events-accepted, events-refused, after-accepted, answer-accepted, after-refused, answer-refused}
-use Rattle.board.specs.Held.{plainOf, eventsIn, answerOf, Few, BoardSound, Makes, Writes, ReadsTo}
+use Rattle.board.proofs.PlainLaws.{events-accepted, events-refused, after-accepted, answer-accepted, after-refused, answer-refused}
+use Rattle.board.specs.BoardRep.{plainOf, eventsIn, answerOf, Few, BoardSound, Makes, Writes, ReadsTo}
 use Rattle.board.specs.declared.board.Board.{Board}
 use Rattle.board.specs.declared.board.Answer.the-variants as answer
 use Rattle.board.specs.declared.board.Written.{Written}
 
-plain-same : (d d′ : rx.Demod) (n n′ : ℕ) (k k′ : tide.Desk) → d ≡ d′ → n ≡ n′ → k ≡ k′
-    → _≡_ {A = plain.Plain} (record { demod = d; accepted = n; desk = k }) (record { demod = d′; accepted = n′; desk = k′ })
+plain-same : (d d′ : rx.Demod) (n n′ : ℕ) (k k′ : tide.Decoder) → d ≡ d′ → n ≡ n′ → k ≡ k′
+    → _≡_ {A = plain.Plain} (record { demod = d; accepted = n; decoder = k }) (record { demod = d′; accepted = n′; decoder = k′ })
 plain-same d d′ n n′ k k′ p q r = rw (p, q, r) refl
 
 -- ---- `new`
@@ -58,14 +60,14 @@ checked-is false Accepted station e = by (eqb station 0) ∙ ap replyOf (sym (fi
     by true = ap replyOf (sym (first-yes 2 0))
     by false = ap replyOf (sym (first-no 2 0))
 
-module _ (rate station : ℕ) (role : Role) (r : Rx) (a : Acceptance) (d : Desk)
-    (gave : rx.made (acceptanceOf a) (receiverOf r) ≡ rx.newOf rate role) (sound : RxSound r) (made : desks.Made station d) where
+module _ (rate station : ℕ) (role : Role) (r : Rx) (a : Acceptance) (d : Decoder)
+    (gave : rx.made (acceptanceOf a) (receiverOf r) ≡ rx.newOf rate role) (sound : RxSound r) (made : decoders.Made station d) where
   receiver-is : receiverOf r ≡ rx.receiver (rx.freshDemod (admitted rate) role) [] [] 0
   receiver-is = ap (λ (m : rx.Made). m .state) (gave ∙ new-is rate role) ∙ fresh-is (admitted rate) role
 
   no-counts : total (d .counts) ≡ 0
-  unfolding tide.freshDesk total
-  no-counts = ap (λ (k : tide.Desk). total (k .counts)) (made .same)
+  unfolding tide.freshDecoder total
+  no-counts = ap (λ (k : tide.Decoder). total (k .counts)) (made .same)
 
   few : Few r d
   unfolding Few
@@ -74,20 +76,20 @@ module _ (rate station : ℕ) (role : Role) (r : Rx) (a : Acceptance) (d : Desk)
       let h = ap (λ (x : rx.Receiver). framing.held (x .demod .inner .core .deframer)) receiver-is ∙ fresh-idle (admitted rate) role in
       omega (arith, no-counts, w, h)
 
-  pub makes : Makes rate station role (record { answer = checked a station; state = record { rx = r; desk = d } })
+  pub makes : Makes rate station role (record { answer = checked a station; state = record { rx = r; decoder = d } })
   unfolding plainOf eventsIn plain.newOf plain.newNumber plain.fresh
   makes =
       record {
         answer = checked-is (rateRefused rate) a station (ap (λ (m : rx.Made). m .answer) (gave ∙ new-is rate role));
         state =
             plain-same _ _ _ _ _ _ (ap (λ (x : rx.Receiver). x .demod) receiver-is) (ap (λ (x : rx.Receiver). x .accepted) receiver-is) (made .same);
-        events = ap (λ (x : rx.Receiver). x .noted) receiver-is;
-        sound = record { rx = sound; empty = ap (λ (x : rx.Receiver). x .waiting) receiver-is; desk = made .sound; few = few };
+        events = ap (λ (x : rx.Receiver). x .logged) receiver-is;
+        sound = record { rx = sound; empty = ap (λ (x : rx.Receiver). x .waiting) receiver-is; decoder = made .sound; few = few };
       }
 
 -- ---- the bytes that wait, read and judged
-module _ (r : Rx) (d : Desk) (sound : RxSound r) (sound-desk : desks.Sound d) (few : Few r d) where
-  few-counts : total (d .counts) + length (receiverOf r .waiting) ≤ desks.mostCount
+module _ (r : Rx) (d : Decoder) (sound : RxSound r) (sound-decoder : decoders.Sound d) (few : Few r d) where
+  few-counts : total (d .counts) + length (receiverOf r .waiting) ≤ decoders.mostCount
   unfolding Few
   few-counts = omega (arith, few, sound-count r sound)
 
@@ -99,24 +101,24 @@ module _ (r : Rx) (d : Desk) (sound : RxSound r) (sound-desk : desks.Sound d) (f
     pub count-few : n ≤ 512
     count-few = omega (arith, all .count, sound-few r sound)
 
-    few-next : (f : Fed) → total (f .desk .counts) ≤ total (d .counts) + length (receiverOf r .waiting) → Few next (f .desk)
+    few-next : (f : Fed) → total (f .decoder .counts) ≤ total (d .counts) + length (receiverOf r .waiting) → Few next (f .decoder)
     unfolding Few
     few-next f h =
         let w = ap length (all .waiting) in
         let k = ap (λ (x : rx.Demod). framing.held (x .inner .core .deframer)) (all .demod) in
         omega (arith, few, h, w, k, all .accepted)
 
-    pub reads-to : (f : Fed) → desks.Feeds d (take n buf′) f
-        → ReadsTo r d (record { answer = answer.Heard n (f .lines) (f .last); state = record { rx = next; desk = f .desk } })
+    pub reads-to : (f : Fed) → decoders.Feeds d (take n buf′) f
+        → ReadsTo r d (record { answer = answer.Heard n (f .lines) (f .last); state = record { rx = next; decoder = f .decoder } })
     reads-to f fed =
-        let g : desks.Feeds d (receiverOf r .waiting) f = rw (all .bytes) at fed in
+        let g : decoders.Feeds d (receiverOf r .waiting) f = rw (all .bytes) at fed in
         record {
           answer = rw (all .count, g .lines, g .last) refl;
-          desk = g .same ∙ holds-bytes (receiverOf r .waiting) (desks.deskOf d) (sound-desk .places) few-counts;
+          decoder = g .same ∙ holds-bytes (receiverOf r .waiting) (decoders.decoderOf d) (sound-decoder .places) few-counts;
           demod = all .demod;
-          events = all .noted;
+          events = all .logged;
           accepted = all .accepted;
-          sound = record { rx = sound-next; empty = all .waiting; desk = g .sound; few = few-next f (g .few) };
+          sound = record { rx = sound-next; empty = all .waiting; decoder = g .sound; few = few-next f (g .few) };
         }
 
 -- ---- `write`
@@ -149,7 +151,7 @@ module _ (b : Board) (s : List Float) (ok : BoardSound b) (next : Rx) where
     unfolding plain.bytesOf plainOf
     bytes-wait = went .waiting ∙ ap (λ (l : List ℕ). l ++ rx.heardBy (receiverOf (b .rx) .demod) s .bytes) (ok .empty)
 
-    pub few-more : Few next (b .desk)
+    pub few-more : Few next (b .decoder)
     unfolding Few
     few-more =
         let d = receiverOf (b .rx) .demod in
@@ -158,11 +160,11 @@ module _ (b : Board) (s : List Float) (ok : BoardSound b) (next : Rx) where
         let k = ap (λ (x : rx.Demod). framing.held (x .inner .core .deframer)) (went .demod) in
         omega (arith, h, w, k, went .accepted, ok .few)
 
-    -- what the desk makes of bytes
+    -- what the decoder makes of bytes
     abbrev heard-of : List ℕ → plain.Answer
-    heard-of bs = plain.heard (length bs) (length (tide.linesIn (desks.deskOf (b .desk)) bs)) (tide.lastOf 0 (tide.verdictsIn (desks.deskOf (b .desk)) bs))
+    heard-of bs = plain.heard (length bs) (length (tide.linesIn (decoders.decoderOf (b .decoder)) bs)) (tide.lastOf 0 (tide.verdictsIn (decoders.decoderOf (b .decoder)) bs))
 
-    module _ (r : Written) (t : ReadsTo next (b .desk) r) where
+    module _ (r : Written) (t : ReadsTo next (b .decoder) r) where
       answers : answerOf (r .answer) ≡ plain.answer (plainOf b) s
       unfolding plainOf
       answers = t .answer ∙ ap heard-of bytes-wait ∙ sym (answer-accepted (plainOf b) s none-refused)
@@ -171,11 +173,11 @@ module _ (b : Board) (s : List Float) (ok : BoardSound b) (next : Rx) where
       unfolding plainOf plain.took
       takes =
           plain-same _ _ _ _ _ _ (t .demod ∙ went .demod) (t .accepted ∙ went .accepted)
-          (t .desk ∙ ap (λ (l : List ℕ). tide.addBytes (desks.deskOf (b .desk)) l) bytes-wait)
+          (t .decoder ∙ ap (λ (l : List ℕ). tide.addBytes (decoders.decoderOf (b .decoder)) l) bytes-wait)
 
       notes : eventsIn (r .state) ≡ plain.eventsAfter (plainOf b) (eventsIn b) s
       unfolding plainOf eventsIn
-      notes = t .events ∙ went .noted ∙ sym (events-accepted (plainOf b) (eventsIn b) s none-refused)
+      notes = t .events ∙ went .logged ∙ sym (events-accepted (plainOf b) (eventsIn b) s none-refused)
 
       pub writes-accepted : Writes b s r
       writes-accepted = record { answer = answers; state = takes ∙ sym (after-accepted (plainOf b) s none-refused); events = notes; sound = t .sound }

@@ -1,10 +1,7 @@
--- The definitions that the contracts of `board` cite, and the theorems about them.
+-- The definitions that the contracts of `board` cite: the plain board, the third term, and how the code holds, runs and answers them.
 pub mod Plain
-pub mod PlainLaws
 pub mod Term
-pub mod Third
-pub mod Held
-pub mod HeldLaws
-pub mod Hosted
+pub mod Station
+pub mod BoardRep
 pub mod Runs
-pub mod Examples
+pub mod Hosted

@@ -9,7 +9,7 @@ use Rattle.bell103.specs.declared.Role.{Role}
 use Rattle.refusal.specs.declared.Acceptance.the-variants.{Accepted}
 use Rattle.board.specs.Plain.{Plain, eventsAfter, eventsAll, Answer, refused, heard, fresh, after, answer, afterAll, answersAll, newNumber, newOf}
 use Rattle.board.specs.Term.{Term3}
-use Rattle.board.specs.Held.{plainOf, eventsIn, BoardSound}
+use Rattle.board.specs.BoardRep.{plainOf, eventsIn, BoardSound}
 use Rattle.board.specs.declared.board.Board.{Board}
 use Rattle.board.specs.declared.writes.Place.{Place}
 use Rattle.board.specs.declared.writes.Listened.{Listened}
@@ -28,6 +28,10 @@ unfoldable pub numbersAll : List Answer → List ℕ
 numbersAll [] = []
 numbersAll (a ∷ said) = numbersOf a ++ numbersAll said
 
+-- an answer's numbers at place `at` of a list, all else as it was
+abbrev pub putAt : ℕ → List ℕ → List ℕ → List ℕ
+putAt at numbers before = take at before ++ (numbers ++ drop (at + 4) before)
+
 -- how many writes are run: as many as have a length, and room for four numbers
 abbrev pub writesRun : List ℕ → List ℕ → ℕ
 writesRun lengths answers = min (length lengths) (length answers / 4)
@@ -43,7 +47,7 @@ pub record Stepped (p q : Place) (n : ℕ) (s : List Float) (at : ℕ) (before a
   pub state : plainOf (q .board) ≡ after (plainOf (p .board)) (take n (drop (p .read) s))
   pub events : eventsIn (q .board) ≡ eventsAfter (plainOf (p .board)) (eventsIn (p .board)) (take n (drop (p .read) s))
   pub left : drop (q .read) s ≡ drop n (drop (p .read) s)
-  pub answers : after′ ≡ take at before ++ (numbersOf (answer (plainOf (p .board)) (take n (drop (p .read) s))) ++ drop (at + 4) before)
+  pub answers : after′ ≡ putAt at (numbersOf (answer (plainOf (p .board)) (take n (drop (p .read) s)))) before
   pub within : Within q s
 
 -- the writes of a list, from the board b₀ on

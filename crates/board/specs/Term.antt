@@ -7,11 +7,10 @@ use mathlib.Core.List.{List, [], _∷_, _++_}
 use lib.IntN.{ℤ}
 use lib.ListN.{length, getD, drop}
 use lib.Ieee.{Float}
-use Rattle.tide.specs.Hex.{hexLine}
-use Rattle.tide.specs.Frame.{total, readerOf, Intact, Writer, Rules, bitsOf, lineBy}
-use Rattle.tide.specs.Judge.{Shown, none, shows, Verdict, judge, settle, ofFields, ofLine}
-use Rattle.tide.specs.JudgeLaws.{Passes}
-use Rattle.desk.specs.Desk.{Line, Desk, IsAnswer, countOf, verdict, shownOn, answersOn, times, goods, AtMost, Best}
+use Rattle.hexadecimal.specs.Hex.{hexLine, total}
+use Rattle.tide.specs.Frame.{readerOf, Intact, Writer, Rules, bitsOf, lineBy}
+use Rattle.tide.specs.Judge.{Shown, none, shows, Verdict, judge, settle, ofFields, ofLine, Passes}
+use Rattle.tide.specs.Decoder.{Line, Decoder, IsAnswer, countOf, verdict, shownOn, answersOn, times, goods, AtMost, Best}
 use Rattle.board.specs.Plain.{Plain, Answer, afterAll, linesAll, verdictsAll, answersAll, endedIn}
 
 -- ---- the lines judged, in order
@@ -53,42 +52,42 @@ pub record Term3 (fresh : Plain) (ws : List (List Float)) (b : Plain) (said : Li
   pub answers : said ≡ answersAll fresh ws
   -- the reading is the good line with the greatest water minute, the earliest among equals: "greater than that of every good line judged
   -- before it", and at least that of every one behind it
-  pub reading : Best (goods (fresh .desk .station) (linesAll fresh ws)) (b .desk .reading)
+  pub reading : Best (goods (fresh .decoder .station) (linesAll fresh ws)) (b .decoder .reading)
   -- the board shows nothing exactly when no good line was judged
-  pub empty : (b .desk .reading ≡ none) ↔ (goods (fresh .desk .station) (linesAll fresh ws) ≡ [])
+  pub empty : (b .decoder .reading ≡ none) ↔ (goods (fresh .decoder .station) (linesAll fresh ws) ≡ [])
   -- "The reading's W is at least that of every other good line judged since fresh"
-  pub greatest : (w : ℕ) (v : ℤ) → b .desk .reading ≡ shows w v → AtMost w (goods (fresh .desk .station) (linesAll fresh ws))
+  pub greatest : (w : ℕ) (v : ℤ) → b .decoder .reading ≡ shows w v → AtMost w (goods (fresh .decoder .station) (linesAll fresh ws))
   -- "one count for each line answer": the number of times that it was given
-  pub counts : (n : ℕ) → IsAnswer n → countOf (b .desk) n ≡ times n (verdictsAll fresh ws)
+  pub counts : (n : ℕ) → IsAnswer n → countOf (b .decoder) n ≡ times n (verdictsAll fresh ws)
   -- "Lines judged since fresh = lines ended, summed over the accepted writes"
   pub ended : length (linesAll fresh ws) ≡ endedIn said
   -- "= shown (answer 0) + sum of the other counts"
-  pub judged : length (linesAll fresh ws) ≡ countOf (b .desk) 0 + total (drop 1 (b .desk .counts))
+  pub judged : length (linesAll fresh ws) ≡ countOf (b .decoder) 0 + total (drop 1 (b .decoder .counts))
   -- the answers are those of the lines, "judged and emptied" one after the other
-  pub verdicts : verdictsAll fresh ws ≡ given (fresh .desk .station) (linesAll fresh ws)
+  pub verdicts : verdictsAll fresh ws ≡ given (fresh .decoder .station) (linesAll fresh ws)
   -- and so is the reading
-  pub shown : b .desk .reading ≡ stands (fresh .desk .station) (linesAll fresh ws)
+  pub shown : b .decoder .reading ≡ stands (fresh .decoder .station) (linesAll fresh ws)
   -- each judged line at its place: its answer, and what stands after it, from what stood before it
   pub each :
       (ls rs : List Line) (l : Line) → linesAll fresh ws ≡ ls ++ l ∷ rs
-      → JudgedAs (fresh .desk .station) (verdictsAll fresh ws) ls l (judge (fresh .desk .station) (stands (fresh .desk .station) ls) (l .chars) (l .more))
+      → JudgedAs (fresh .decoder .station) (verdictsAll fresh ws) ls l (judge (fresh .decoder .station) (stands (fresh .decoder .station) ls) (l .chars) (l .more))
   -- each judged line that a writer of any version 1 to 255 wrote for readers from 1 on, "whatever its later bytes": judged on station, stamp,
   -- age and level alone
   pub fields :
       (ls rs : List Line) (w : Writer) → linesAll fresh ws ≡ ls ++ lineOf (lineBy w) ∷ rs → Rules w → w .reader ≡ 1
-      → JudgedAs (fresh .desk .station) (verdictsAll fresh ws) ls (lineOf (lineBy w))
-      (onFields (fresh .desk .station) (stands (fresh .desk .station) ls) (w .station) (w .stamp) (w .age) (w .level))
+      → JudgedAs (fresh .decoder .station) (verdictsAll fresh ws) ls (lineOf (lineBy w))
+      (onFields (fresh .decoder .station) (stands (fresh .decoder .station) ls) (w .station) (w .stamp) (w .age) (w .level))
   -- "A line that passes 11 to 16 is intact": each judged line that does is one that some writer wrote, so that none is left out above and below
   pub written :
-      (ls rs : List Line) (l : Line) → linesAll fresh ws ≡ ls ++ l ∷ rs → Passes (ofLine (fresh .desk .station) (l .chars) (l .more))
+      (ls rs : List Line) (l : Line) → linesAll fresh ws ≡ ls ++ l ∷ rs → Passes (ofLine (fresh .decoder .station) (l .chars) (l .more))
       → (w : Writer) × Rules w × (l ≡ lineOf (lineBy w))
   -- two such lines alike in these, on boards alike in station and reading: one answer, and one reading after it
   pub alike :
-      (v w : Writer) (c d : Desk) → Alike v w → c .station ≡ d .station → c .reading ≡ d .reading
+      (v w : Writer) (c d : Decoder) → Alike v w → c .station ≡ d .station → c .reading ≡ d .reading
       → c .line ≡ lineOf (lineBy v) → d .line ≡ lineOf (lineBy w) → verdict c ≡ verdict d
   -- "one for newer readers has F > 1, and where it is intact it gets 17 and is so counted as newer": the reading stands, and 17 was given
   -- once more
   pub newer :
       (ls rs : List Line) (f : List ℕ) → linesAll fresh ws ≡ ls ++ lineOf (hexLine f) ∷ rs → Intact f → 1 < readerOf f
-      → JudgedAs (fresh .desk .station) (verdictsAll fresh ws) ls (lineOf (hexLine f)) (record { answer = 17; reading = stands (fresh .desk .station) ls })
-      × (times 17 (given (fresh .desk .station) (ls ++ lineOf (hexLine f) ∷ [])) ≡ times 17 (given (fresh .desk .station) ls) + 1)
+      → JudgedAs (fresh .decoder .station) (verdictsAll fresh ws) ls (lineOf (hexLine f)) (record { answer = 17; reading = stands (fresh .decoder .station) ls })
+      × (times 17 (given (fresh .decoder .station) (ls ++ lineOf (hexLine f) ∷ [])) ≡ times 17 (given (fresh .decoder .station) ls) + 1)

@@ -1,10 +1,14 @@
-// The quay board: from samples to a reading.
+// The board: what a host calls. The receiver of `modem` hears, the decoder of `tide` judges; no bytes wait between writes.
 //
-//   board     a board, its writes, and what it shows      specs/Plain.antt, specs/Held.antt
-//   writes    a list of writes from a fresh board on      specs/Term.antt, specs/Runs.antt
+//   board     `new`, `write`, and what the board shows     specs/Plain.antt, BoardRep.antt
+//   writes    a list of writes: the third term             specs/Term.antt, Runs.antt
+//   counts, numbers, station: parts of them                specs/Station.antt
 //
-// The third term of the list of writes as a whole: specs/Term.antt; for a host that makes the calls itself: specs/Hosted.antt.
+// For a host that calls `new` and `write` itself: specs/Hosted.antt, proofs/HostedLaws.antt.
 mod board;
+mod counts;
+mod numbers;
+mod station;
 mod writes;
 
 pub use board::Answer;

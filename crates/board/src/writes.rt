@@ -1,17 +1,17 @@
 // A list of writes from a fresh board on.
 use crate::board::Answer;
 use crate::board::Board;
+use crate::numbers::Numbers;
+use crate::numbers::tell;
+use crate::numbers::writes_in;
 use bell103::Role;
-use boardparts::told::Told;
-use boardparts::told::tell;
-use boardparts::told::writes_in;
-use callparts::ends::part_end;
+use numeric::ends::part_end;
 use refusal::Acceptance;
 ghost use mathlib.Core.Path.{_≡_};
 ghost use mathlib.Core.List.{[], _∷_};
 ghost use Prim.Native.Nat.{_+_, _≤_};
 ghost use lib.ListN.{length};
-ghost use Rattle.board.specs.Held.{answerOf, BoardSound};
+ghost use Rattle.board.specs.BoardRep.{answerOf, BoardSound};
 ghost use Rattle.board.specs.Runs.{numbersOf, Within, Stepped, RunFrom, Listens};
 
 // What `listen` answers: `new`'s answer, how many writes it ran, and the board after them.
@@ -21,17 +21,17 @@ pub struct Listened {
     pub state: Board,
 }
 
-fn told_of(answer: Answer) -> Told
+fn numbers_of(answer: Answer) -> Numbers
     ensures { λ r. ⌜ r .number ∷ r .bytes ∷ r .lines ∷ r .last ∷ [] ≡ numbersOf (answerOf answer) ⌝ }
 {
     match answer {
-        Answer::Refused(why) => Told {
+        Answer::Refused(why) => Numbers {
             number: why.number(),
             bytes: 0,
             lines: 0,
             last: 0,
         },
-        Answer::Heard { bytes, lines, last } => Told {
+        Answer::Heard { bytes, lines, last } => Numbers {
             number: 0,
             bytes,
             lines,
@@ -56,7 +56,7 @@ fn one_write(p: Place, samples: &[f32], n: u32, answers: &mut [u64], at: usize) 
     let end = part_end(read, n, samples.len());
     let w = board.write(&samples[read..end]);
     let answer = w.answer;
-    let t = told_of(answer);
+    let t = numbers_of(answer);
     tell(answers, at, t);
     let next = w.state;
     Place {

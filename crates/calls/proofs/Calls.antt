@@ -11,14 +11,14 @@ use lib.Seq.{drop-cons, length-take-le}
 use lib.Ieee.{Float}
 use Rattle.refusal.specs.Refusals.{Reply, given, refused, ratesRefused}
 use Rattle.resampling.specs.Resample.{State, fresh, Made, made, newOf, Outcome, outcome, laid, unlessRefused, refusalOf, ranOver, lenOf, processed}
-use Rattle.feeding.specs.Flow.{Ran}
-use Rattle.resampling.specs.ResampleHeld.{stateOf, Sound}
+use Rattle.resampling.specs.Flow.{Ran}
+use Rattle.resampling.specs.ResampleRep.{stateOf, Sound}
 use Rattle.resampling.specs.declared.resample.Resampler.{Resampler}
-use Rattle.callparts.specs.Made.{accepted-only, refused-only}
-use Rattle.numeric.specs.Parts.{take-behind, drop-behind, part-next, part-left}
-use Rattle.callparts.proofs.Parts.{next-two, rest-is, rest-put}
-use Rattle.callparts.specs.Answers.{numberIn, countIn, told}
-use Rattle.callparts.specs.declared.answers.Told.{Told}
+use Rattle.calls.proofs.Made.{accepted-only, refused-only}
+use Rattle.numeric.proofs.Parts.{take-behind, drop-behind, part-next, part-left}
+use Rattle.calls.proofs.Parts.{next-two, rest-is, rest-put}
+use Rattle.calls.specs.Answers.{numberIn, countIn, reply}
+use Rattle.calls.specs.declared.answers.Numbers.{Numbers}
 use Rattle.calls.specs.Resample.{Run, ran, after, processedFrom, lengthsFrom}
 use Rattle.calls.specs.Steps.{Within, Stepped, outcomeAt}
 use Rattle.calls.specs.declared.resample.Place.{Place}
@@ -64,22 +64,22 @@ module _ (ns : List ℕ) (i : ℕ) (ans ans′ : List ℕ) (some : i < length ns
   double : 2 * (i + 1) ≡ 2 * i + 2
   double = omega arith
 
-  answered : (r : Reply ℕ) → ans′ ≡ take (2 * i) ans ++ (told r ++ drop (2 * i + 2) ans) → take (2 * (i + 1)) ans′ ≡ take (2 * i) ans ++ told r
-  answered r e = rw (e, double) (take-behind (take (2 * i) ans) (told r ++ drop (2 * i + 2) ans) (2 * i) 2 (length-take-le (2 * i) ans (omega arith)))
+  answered : (r : Reply ℕ) → ans′ ≡ take (2 * i) ans ++ (reply r ++ drop (2 * i + 2) ans) → take (2 * (i + 1)) ans′ ≡ take (2 * i) ans ++ reply r
+  answered r e = rw (e, double) (take-behind (take (2 * i) ans) (reply r ++ drop (2 * i + 2) ans) (2 * i) 2 (length-take-le (2 * i) ans (omega arith)))
 
-  unanswered : (r : Reply ℕ) → ans′ ≡ take (2 * i) ans ++ (told r ++ drop (2 * i + 2) ans) → drop (2 * (i + 1)) ans′ ≡ drop (2 * i + 2) ans
-  unanswered r e = rw (e, double) (drop-behind (take (2 * i) ans) (told r ++ drop (2 * i + 2) ans) (2 * i) 2 (length-take-le (2 * i) ans (omega arith)))
+  unanswered : (r : Reply ℕ) → ans′ ≡ take (2 * i) ans ++ (reply r ++ drop (2 * i + 2) ans) → drop (2 * (i + 1)) ans′ ≡ drop (2 * i + 2) ans
+  unanswered r e = rw (e, double) (drop-behind (take (2 * i) ans) (reply r ++ drop (2 * i + 2) ans) (2 * i) 2 (length-take-le (2 * i) ans (omega arith)))
 
   next : drop i ns ≡ getD ns i 0 ∷ drop (i + 1) ns
   next = rw (add-one i) (drop-cons ns i 0 some)
 
-  pub lengths-step : (s : State) → ans′ ≡ take (2 * i) ans ++ (told (lenOf s (getD ns i 0)) ++ drop (2 * i + 2) ans)
+  pub lengths-step : (s : State) → ans′ ≡ take (2 * i) ans ++ (reply (lenOf s (getD ns i 0)) ++ drop (2 * i + 2) ans)
       → after (i + 1) [] (take (2 * (i + 1)) ans′) (lengthsFrom s (drop (i + 1) ns) (drop (2 * (i + 1)) ans′)) ≡ after i [] (take (2 * i) ans) (lengthsFrom s (drop i ns) (drop (2 * i) ans))
   unfolding lengthsFrom
   lengths-step s e =
       let r = lenOf s (getD ns i 0) in
       rw (answered r e, unanswered r e, next, next-two 0 ans (2 * i) room)
-      (sym (after-after i 1 [] [] (take (2 * i) ans) (told r) (lengthsFrom s (drop (i + 1) ns) (drop (2 * i + 2) ans))))
+      (sym (after-after i 1 [] [] (take (2 * i) ans) (reply r) (lengthsFrom s (drop (i + 1) ns) (drop (2 * i + 2) ans))))
 
   -- from the place p to q
   module _ (p q : Place) (xs out out′ : List Float) (within : p .written ≤ length out)
@@ -105,7 +105,7 @@ module _ (ns : List ℕ) (i : ℕ) (ans ans′ : List ℕ) (some : i < length ns
     processed-step =
         let r = gives .answer in
         rw (wrote, unwritten, step .state, step .left, answered r (step .answers), unanswered r (step .answers), next, next-two 0 ans (2 * i) room)
-        (sym (after-after i 1 (take (p .written) out) (take count (gives .out)) (take (2 * i) ans) (told r)
+        (sym (after-after i 1 (take (p .written) out) (take count (gives .out)) (take (2 * i) ans) (reply r)
         (processedFrom (gives .state) (drop (getD ns i 0) (drop (p .read) xs)) (drop (i + 1) ns) (drop count (gives .out)) (drop (2 * i + 2) ans))))
 
 -- ---- the last call
@@ -125,7 +125,7 @@ module _ (ns : List ℕ) (i : ℕ) (ans : List ℕ) (full : i < length ns → le
   processed-end s xs out w = rw (processed-stop s xs (drop i ns) (drop w out) (drop (2 * i) ans) none, add-zero i, take-append-drop w out, take-append-drop (2 * i) ans)
 
 -- ---- one call in the code: it lends the input up to e and the output from p on, and gives the answer a, the state st, and ys in the place of that
--- part; then the answer is told
+-- part; then the answer is reply
 module _ (p : Place) (n e : ℕ) (xs out : List Float) (at-p : Within p xs out) (is : e ≡ p .read + min n (length xs - p .read)) (fits : e ≤ length xs)
     (a : Reply ℕ) (st : Resampler) (ys : List Float)
     (gave : outcome a (stateOf st) ys ≡ processed (stateOf (p .state)) (take (e - p .read) (drop (p .read) xs)) (take (length out - p .written) (drop (p .written) out))) where
@@ -150,8 +150,8 @@ module _ (p : Place) (n e : ℕ) (xs out : List Float) (at-p : Within p xs out) 
   pub call-within : Sound st → (count : ℕ) → count ≡ countIn a → Within (place-after count) xs out-after
   call-within s count e = record { sound = s; read = fits; written = rw e call-written }
 
-  module _ (t : Told) (number : t .number ≡ numberIn a) (count : t .count ≡ countIn a) (before behind ans′ : List ℕ)
-      (told-is : ans′ ≡ before ++ (t .number ∷ t .count ∷ behind)) where
+  module _ (t : Numbers) (number : t .number ≡ numberIn a) (count : t .count ≡ countIn a) (before behind ans′ : List ℕ)
+      (reply-is : ans′ ≡ before ++ (t .number ∷ t .count ∷ behind)) where
     pub call-steps : Stepped p (place-after (t .count)) n xs out out-after before behind ans′
     call-steps =
         record {
@@ -159,7 +159,7 @@ module _ (p : Place) (n e : ℕ) (xs out : List Float) (at-p : Within p xs out) 
           left = part-left xs (p .read) n e is;
           written = rw (← is-outcome, count);
           output = rw (← is-outcome) out-is;
-          answers = rw (← is-outcome, ← number, ← count) told-is;
+          answers = rw (← is-outcome, ← number, ← count) reply-is;
         }
 
 -- ---- the rates, as `new` judges them

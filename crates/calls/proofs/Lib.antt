@@ -1,2 +1,9 @@
--- Laws that more than one proof of `calls` cites.
+-- Lists of calls. Assumes nothing.
+pub mod Parts
 pub mod Calls
+pub mod ReceiverCalls
+pub mod ByKind
+pub mod Steps
+pub mod Showing
+pub mod Made
+pub mod ReceiveLaws

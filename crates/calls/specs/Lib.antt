@@ -1,3 +1,10 @@
--- What lists of calls of the resampler give.
+-- Lists of calls. Assumes nothing.
+pub mod Answers
+pub mod Roles
 pub mod Resample
 pub mod Steps
+pub mod Receive
+pub mod ReceiveSteps
+pub mod Send
+pub mod SendSteps
+pub mod Shown

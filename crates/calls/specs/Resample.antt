@@ -3,10 +3,10 @@ use Prim.Native.Nat.{ℕ, _+_}
 use mathlib.Core.List.{List, [], _∷_, _++_}
 use lib.ListN.{take, drop}
 use lib.Ieee.{Float}
-use Rattle.numeric.specs.F64.{if_then_else_}
+use Rattle.numeric.specs.If.{if_then_else_}
 use Rattle.refusal.specs.Refusals.{ratesRefused}
 use Rattle.resampling.specs.Resample.{State, fresh, lenOf, processed}
-use Rattle.callparts.specs.Answers.{countIn, told}
+use Rattle.calls.specs.Answers.{countIn, reply}
 
 -- what a list of calls leaves: how many were run, the lent output, and the lent answers
 pub record Run : Type 0 where
@@ -30,7 +30,7 @@ processedFrom s xs (n ∷ ns) out (a ∷ []) = ran 0 out (a ∷ [])
 processedFrom s xs (n ∷ ns) out (a ∷ b ∷ ans) =
     let p = processed s (take n xs) out in
     let k = countIn (p .answer) in
-    after 1 (take k (p .out)) (told (p .answer)) (processedFrom (p .state) (drop n xs) ns (drop k (p .out)) ans)
+    after 1 (take k (p .out)) (reply (p .answer)) (processedFrom (p .state) (drop n xs) ns (drop k (p .out)) ans)
 
 -- rates that `new` refuses run no call and write nothing
 unfoldable pub resampleRun : ℕ → ℕ → List Float → List ℕ → List Float → List ℕ → Run
@@ -41,7 +41,7 @@ unfoldable pub lengthsFrom : State → List ℕ → List ℕ → Run
 lengthsFrom s [] ans = ran 0 [] ans
 lengthsFrom s (n ∷ ns) [] = ran 0 [] []
 lengthsFrom s (n ∷ ns) (a ∷ []) = ran 0 [] (a ∷ [])
-lengthsFrom s (n ∷ ns) (a ∷ b ∷ ans) = after 1 [] (told (lenOf s n)) (lengthsFrom s ns ans)
+lengthsFrom s (n ∷ ns) (a ∷ b ∷ ans) = after 1 [] (reply (lenOf s n)) (lengthsFrom s ns ans)
 
 unfoldable pub lengthsRun : ℕ → ℕ → List ℕ → List ℕ → Run
 lengthsRun src dst ns ans = if ratesRefused src dst then ran 0 [] ans else lengthsFrom (fresh src dst) ns ans

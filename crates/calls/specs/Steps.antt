@@ -5,8 +5,8 @@ use mathlib.Core.List.{List, _++_}
 use lib.ListN.{length, take, drop}
 use lib.Ieee.{Float}
 use Rattle.resampling.specs.Resample.{Outcome, processed}
-use Rattle.resampling.specs.ResampleHeld.{stateOf, Sound}
-use Rattle.callparts.specs.Answers.{countIn, told}
+use Rattle.resampling.specs.ResampleRep.{stateOf, Sound}
+use Rattle.calls.specs.Answers.{countIn, reply}
 use Rattle.calls.specs.declared.resample.Place.{Place}
 
 -- a place within the input and the output, with a sound state
@@ -25,4 +25,4 @@ pub record Stepped (p q : Place) (n : ℕ) (xs out out′ : List Float) (before 
   pub left : drop (q .read) xs ≡ drop n (drop (p .read) xs)
   pub written : q .written ≡ p .written + countIn (outcomeAt p n xs out .answer)
   pub output : out′ ≡ take (p .written) out ++ outcomeAt p n xs out .out
-  pub answers : ans′ ≡ before ++ (told (outcomeAt p n xs out .answer) ++ behind)
+  pub answers : ans′ ≡ before ++ (reply (outcomeAt p n xs out .answer) ++ behind)

@@ -1,2 +1,24 @@
-// Lists of calls of the resampler from a fresh state: what hosts in C and runs against the Rust original are given.
-pub mod resample;
+// Lists of calls from a fresh state: what hosts in C and runs against the Rust original are given.
+//
+//   resample   of the resampler                                    specs/Resample.antt, Steps.antt
+//   receive    of the receiver                                     specs/Receive.antt, ReceiveSteps.antt
+//   send       of the sender                                       specs/Send.antt, SendSteps.antt
+//   shown      what a board shows, as numbers                      specs/Shown.antt
+//   answers, events, roles: answers, events and roles as numbers   specs/Answers.antt, Roles.antt
+mod answers;
+mod events;
+mod receive;
+mod resample;
+mod roles;
+mod send;
+mod shown;
+
+pub use answers::number_in;
+pub use receive::Call;
+pub use receive::make_call;
+pub use receive::received_from_fresh;
+pub use resample::calls_from_fresh;
+pub use resample::lengths_from_fresh;
+pub use roles::role_of;
+pub use send::sent_from_fresh;
+pub use shown::put_board;

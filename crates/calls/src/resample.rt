@@ -1,17 +1,17 @@
 // Lists of calls of the resampler.
-use callparts::answers::tell;
-use callparts::answers::told_of;
-use callparts::ends::part_end;
-use callparts::ends::smaller;
+use crate::answers::numbers_of;
+use crate::answers::tell;
+use numeric::ends::part_end;
+use numeric::ends::smaller;
 use refusal::Acceptance;
-use resampling::resample::Resampler;
+use resampling::Resampler;
 ghost use mathlib.Core.Path.{_≡_};
 ghost use mathlib.Core.List.{[], _++_};
 ghost use Prim.Native.Nat.{_+_, _*_, _≤_};
 ghost use lib.ListN.{length, take, drop};
 ghost use Rattle.resampling.specs.Resample.{lenOf};
-ghost use Rattle.resampling.specs.ResampleHeld.{stateOf, Sound};
-ghost use Rattle.callparts.specs.Answers.{told};
+ghost use Rattle.resampling.specs.ResampleRep.{stateOf, Sound};
+ghost use Rattle.calls.specs.Answers.{reply};
 ghost use Rattle.calls.specs.Resample.{ran, processedFrom, resampleRun, lengthsFrom, lengthsRun};
 ghost use Rattle.calls.specs.Steps.{Within, Stepped};
 
@@ -20,9 +20,9 @@ ghost use Rattle.calls.specs.Steps.{Within, Stepped};
 // One call, and its two numbers at `at` of the answers.
 fn one_length(state: Resampler, samples: u32, answers: &mut [u64], at: usize)
     requires { ⌜ Sound state × (at + 2 ≤ length (now answers)) ⌝ }
-    ensures { λ _. ⌜ now (answers .exit) ≡ take at (now (answers .entry)) ++ (told (lenOf (stateOf state) samples) ++ drop (at + 2) (now (answers .entry))) ⌝ }
+    ensures { λ _. ⌜ now (answers .exit) ≡ take at (now (answers .entry)) ++ (reply (lenOf (stateOf state) samples) ++ drop (at + 2) (now (answers .entry))) ⌝ }
 {
-    let t = told_of(state.max_output_len(samples as usize));
+    let t = numbers_of(state.max_output_len(samples as usize));
     tell(answers, at, t);
 }
 
@@ -71,7 +71,9 @@ fn one_call(
     at: usize,
 ) -> Place
     requires { ⌜ Within p (now input) (now output) × (at + 2 ≤ length (now answers)) ⌝ }
-    ensures { λ r. ⌜ Stepped p r samples (now (input .entry)) (now (output .entry)) (now (output .exit)) (take at (now (answers .entry))) (drop (at + 2) (now (answers .entry))) (now (answers .exit)) ⌝ }
+    ensures { λ r. ⌜
+        Stepped p r samples (now (input .entry)) (now (output .entry)) (now (output .exit))
+        (take at (now (answers .entry))) (drop (at + 2) (now (answers .entry))) (now (answers .exit)) ⌝ }
     ensures { λ r. ⌜ Within r (now (input .entry)) (now (output .exit)) ⌝ }
 {
     let state = p.state;
@@ -80,7 +82,7 @@ fn one_call(
     let end = part_end(read, samples, input.len());
     let done = state.process(&input[read..end], &mut output[written..]);
     let answer = done.answer;
-    let t = told_of(answer);
+    let t = numbers_of(answer);
     tell(answers, at, t);
     let next = done.state;
     Place {
@@ -99,7 +101,9 @@ fn all_calls(
     answers: &mut [u64],
 ) -> usize
     requires { ⌜ Sound state ⌝ }
-    ensures { λ r. ⌜ ran r (now (output .exit)) (now (answers .exit)) ≡ processedFrom (stateOf state) (now (input .entry)) (now (lengths .entry)) (now (output .entry)) (now (answers .entry)) ⌝ }
+    ensures { λ r. ⌜
+        ran r (now (output .exit)) (now (answers .exit))
+        ≡ processedFrom (stateOf state) (now (input .entry)) (now (lengths .entry)) (now (output .entry)) (now (answers .entry)) ⌝ }
 {
     let calls = smaller(lengths.len(), answers.len() / 2);
     let mut place = Place {
@@ -123,7 +127,9 @@ pub fn calls_from_fresh(
     output: &mut [f64],
     answers: &mut [u64],
 ) -> usize
-    ensures { λ r. ⌜ ran r (now (output .exit)) (now (answers .exit)) ≡ resampleRun src dst (now (input .entry)) (now (lengths .entry)) (now (output .entry)) (now (answers .entry)) ⌝ }
+    ensures { λ r. ⌜
+        ran r (now (output .exit)) (now (answers .exit))
+        ≡ resampleRun src dst (now (input .entry)) (now (lengths .entry)) (now (output .entry)) (now (answers .entry)) ⌝ }
 {
     let made = Resampler::new(src, dst);
     let answer = made.answer;

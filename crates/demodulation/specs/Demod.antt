@@ -1,29 +1,34 @@
 -- rx.rs at 8,000 Hz, operation by operation: what one sample makes of the state, and what is heard in a list of samples. Assumes nothing.
-use Prim.Native.Nat.{ℕ, _<_}
+use Prim.Native.Nat.{ℕ, _<_, _+_, _≤_}
 use mathlib.Core.Bool.{Bool, true, false, _&&_, _||_}
 use mathlib.Core.List.{List, [], _∷_, _++_}
 use lib.Ieee.{Float}
-use Rattle.numeric.specs.F64.{if_then_else_, whole}
+use Rattle.numeric.specs.F64.{whole}
+use Rattle.numeric.specs.If.{if_then_else_}
 use Rattle.refusal.specs.Refusals.{dspRate}
 use Rattle.bell103.specs.Roles.{otherRole, tonesOf}
-use Rattle.framing.specs.Frame.{freshDeframer, bytesOf}
-use Rattle.correlation.specs.Correlation.{places, ringsOf, multiplied, advanced, correlated, freshRing, freshCorrelator}
-use Rattle.timing.specs.Timing.{ticked, sliced, freshTiming}
-use Rattle.detection.specs.Carrier.{freshDetector, updated, freshDominance, dominanceStep}
+use Rattle.framing.specs.Frame.{freshDeframer, bytesOf, heard, after}
+use Rattle.demodulation.specs.Correlation.{places, ringsOf, multiplied, advanced, correlated, freshRing, freshCorrelator}
+use Rattle.demodulation.specs.Timing.{ticked, sliced, freshTiming}
+use Rattle.demodulation.specs.Carrier.{freshDetector, updated, freshDominance, dominanceStep}
 use Rattle.bell103.specs.declared.Role.{Role}
 use Rattle.bell103.specs.declared.TonePair.{TonePair}
 use Rattle.framing.specs.declared.frame.Heard.{Heard}
 use Rattle.framing.specs.declared.frame.Heard.the-variants.{Waiting}
-use Rattle.detection.specs.declared.carrier.CarrierDetector.{CarrierDetector}
-use Rattle.detection.specs.declared.carrier.Verdict.{Verdict}
-use Rattle.detection.specs.declared.carrier.Verdict.the-variants.{Going, Dominant, Not}
-use Rattle.correlation.specs.declared.correlator.Rings.{Rings}
+use Rattle.demodulation.specs.declared.carrier.CarrierDetector.{CarrierDetector}
+use Rattle.demodulation.specs.declared.carrier.Verdict.{Verdict}
+use Rattle.demodulation.specs.declared.carrier.Verdict.the-variants.{Going, Dominant, Not}
+use Rattle.demodulation.specs.declared.correlator.Rings.{Rings}
 use Rattle.demodulation.specs.declared.demod.Latch.{Latch}
 use Rattle.demodulation.specs.declared.demod.Event.{Event}
 use Rattle.demodulation.specs.declared.demod.Event.the-variants.{Nothing, CarrierUp, CarrierDown}
 use Rattle.demodulation.specs.declared.demod.Core.{Core}
 use Rattle.demodulation.specs.declared.demod.CoreStep.{CoreStep}
 use Rattle.demodulation.specs.declared.demod.Demodulator.{Demodulator}
+use mathlib.Core.Path.{_≡_}
+use lib.ListN.{length}
+use Rattle.numeric.specs.Fold.{fold}
+use Rattle.framing.specs.declared.frame.Deframer.{Deframer}
 
 -- ---- the latch, and its event
 -- a finished block's verdict opens or shuts the gate
@@ -154,3 +159,20 @@ reported d = d .core .latch .qualified
 pub record Tuned (d : Demodulator) : Type 0 where
   pub place : d .core .corr .pos < places
   pub byte : d .core .deframer .acc < 256
+
+-- ---- the deframer, bit by bit
+-- n samples: the deframer before them, after them, and the bytes of at most n bits that the samples were sliced to
+pub record Sliced (d e : Deframer) (bytes : List ℕ) (n : ℕ) : Type 0 where
+  pub bits : List Bool
+  pub few : length bits ≤ n
+  pub left : after d bits ≡ e
+  pub yields : heard d bits ≡ bytes
+
+-- ---- events
+-- what the last of them says; where there is none, as before
+abbrev pub lastOf : Bool → List Bool → Bool
+lastOf was events = fold (λ (b c : Bool). c) was events
+
+-- two hearings, the second from where the first ended
+abbrev pub joined : Hearing → Hearing → Hearing
+joined x y = record { after = y .after; bytes = x .bytes ++ y .bytes; events = x .events ++ y .events }

@@ -1,26 +1,26 @@
 // The 8,000 Hz part of the receiver: what one sample makes of its state, and what is heard in it.
+use crate::carrier::CarrierDetector;
+use crate::carrier::ToneDominance;
+use crate::carrier::Verdict;
+use crate::correlator::Correlator;
+use crate::correlator::Rings;
+use crate::correlator::Sums;
+use crate::correlator::decide;
+use crate::correlator::multiply;
+use crate::correlator::sums_on;
+use crate::timing::Timing;
+use crate::timing::slice;
+use crate::waves::waves;
 use bell103::Role;
 use bell103::tones;
-use correlation::correlator::Correlator;
-use correlation::correlator::Rings;
-use correlation::correlator::Sums;
-use correlation::correlator::decide;
-use correlation::correlator::multiply;
-use correlation::correlator::sums_on;
-use correlation::waves::waves;
-use detection::carrier::CarrierDetector;
-use detection::carrier::ToneDominance;
-use detection::carrier::Verdict;
 use framing::frame::Deframer;
 use framing::frame::Heard;
 use numeric::root::roots;
 use refusal::DSP_RATE;
-use timing::timing::Timing;
-use timing::timing::slice;
 ghost use mathlib.Core.Path.{_≡_};
 ghost use Prim.Native.Nat.{_<_};
-ghost use Rattle.correlation.specs.Correlation.{ringsOf};
-ghost use Rattle.correlation.specs.Summing.{Summed};
+ghost use Rattle.demodulation.specs.Correlation.{ringsOf};
+ghost use Rattle.demodulation.specs.Summing.{Summed};
 ghost use Rattle.demodulation.specs.Demod.{gateAfter, latched, eventOf, demodulator, fedCore, finished, stepWith, stepOf, freshDemodulator, reported, Tuned};
 
 // What one step brought: a change of the carrier, or none.
@@ -251,6 +251,28 @@ impl Demodulator {
             space_q,
         };
         Demodulator { rings, core }
+    }
+
+    // The parts that `of_parts` takes.
+    pub fn rings(self) -> Rings
+        ensures { λ r. ⌜ r ≡ self .rings ⌝ }
+    {
+        let rings = self.rings;
+        rings
+    }
+
+    pub fn core(self) -> Core
+        ensures { λ r. ⌜ r ≡ self .core ⌝ }
+    {
+        let core = self.core;
+        core
+    }
+
+    pub fn deframer(self) -> Deframer
+        ensures { λ r. ⌜ r ≡ self .core .deframer ⌝ }
+    {
+        let deframer = self.core.deframer;
+        deframer
     }
 
     // The latched report.

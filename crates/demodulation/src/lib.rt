@@ -1,2 +1,23 @@
-// From samples at 8,000 to bytes and carrier events, one sample at a time.
-pub mod demod;
+// From samples at 8,000 a second to bytes and carrier events, one sample at a time (rx.rs, carrier.rs, and nco.rs's Goertzel). What is inside is
+// private; `selftest` runs carrier.rs's two parts from fresh, for document 01's examples.
+//
+//   goertzel     how much of one frequency is in a block      specs/Goertzel.antt
+//   carrier      the detector, and dominance                  specs/Carrier.antt
+//   waves        the two tones' cosines and sines             specs/Correlation.antt
+//   correlator   each sample against the two tones            specs/Correlation.antt, Summing.antt
+//   timing       where a symbol ends, and its bit             specs/Timing.antt
+//   demod        one sample                                   specs/Demod.antt
+mod carrier;
+mod correlator;
+mod demod;
+mod goertzel;
+pub mod selftest;
+mod timing;
+mod waves;
+
+pub use carrier::Verdict;
+pub use correlator::next_sums;
+pub use correlator::sums_before;
+pub use demod::Core;
+pub use demod::Demodulator;
+pub use demod::Event;

@@ -2,10 +2,10 @@
 use crate::print;
 use bell103::Role;
 use bell103::tones;
-use detection::selftest::Rise;
-use detection::selftest::Verdict;
-use detection::selftest::block_verdict;
-use detection::selftest::detector_rise;
+use demodulation::selftest::Rise;
+use demodulation::selftest::Verdict;
+use demodulation::selftest::block_verdict;
+use demodulation::selftest::detector_rise;
 
 fn rise(r: Rise, updates: u32) {
     match r {

@@ -1,6 +1,6 @@
 // The resampler's rates, taps, lengths and refusals, and that a refused call writes nothing.
 use crate::print;
-use resampling::resample::Resampler;
+use resampling::Resampler;
 ghost use mathlib.Core.Path.{_≡_};
 ghost use Prim.Native.Nat.{_≤_};
 ghost use lib.ListN.{length};
@@ -21,7 +21,7 @@ fn taps(rate: u32) {
     print::text(b": ");
     let made = Resampler::new(rate, 8000);
     let r = made.state;
-    print::number(r.n_taps as u64);
+    print::number(r.tap_count() as u64);
     print::end_line();
 }
 

@@ -6,12 +6,12 @@ use lib.Ieee.{Float}
 use Rattle.refusal.specs.Refusals.{replyOf, acceptanceOf}
 use Rattle.bell103.specs.declared.Role.{Role}
 use Rattle.board.specs.Plain.{newNumber, newOf}
-use Rattle.board.specs.Held.{plainOf}
+use Rattle.board.specs.BoardRep.{plainOf}
 use Rattle.board.specs.Runs.{Listens}
 use Rattle.board.specs.declared.writes.Listened.{Listened}
-use Rattle.boardnumbers.specs.Shown.{shownIn}
-use Rattle.callparts.specs.Answers.{numberIn}
-use Rattle.callparts.specs.Roles.{roleOf}
+use Rattle.calls.specs.Shown.{shownIn}
+use Rattle.calls.specs.Answers.{numberIn}
+use Rattle.calls.specs.Roles.{roleOf}
 use Rattle.ffi.specs.Listen.{Heard}
 
 -- ---- `new`

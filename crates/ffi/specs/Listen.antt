@@ -4,11 +4,11 @@ use mathlib.Core.Path.{_≡_}
 use mathlib.Core.List.{List}
 use lib.Ieee.{Float}
 use Rattle.board.specs.Plain.{newNumber}
-use Rattle.board.specs.Held.{plainOf}
+use Rattle.board.specs.BoardRep.{plainOf}
 use Rattle.board.specs.Runs.{Listens}
 use Rattle.board.specs.declared.writes.Listened.{Listened}
-use Rattle.boardnumbers.specs.Shown.{shownIn}
-use Rattle.callparts.specs.Roles.{roleOf}
+use Rattle.calls.specs.Shown.{shownIn}
+use Rattle.calls.specs.Roles.{roleOf}
 
 -- what the function gives: there is an answer `gave` of the board's `listen`, which has the third term of the writes (where `new` refuses,
 -- no write is run and the answers are as they were); r is the number of writes run; and what the board shows after them is shown

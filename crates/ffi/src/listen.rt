@@ -1,8 +1,8 @@
 // The board, exported to C.
 use board::listen;
-use boardnumbers::shown::put_board;
-use callparts::answers::number_in;
-use callparts::roles::role_of;
+use calls::number_in;
+use calls::put_board;
+use calls::role_of;
 use refusal::rate_ok;
 ghost use mathlib.Core.Path.{_≡_};
 ghost use Rattle.board.specs.Plain.{newNumber};
@@ -33,7 +33,9 @@ pub extern "C" fn morkhetta_listen(
     answers: &mut [u64],
     shown: &mut [u64],
 ) -> usize
-    ensures { λ r. ⌜ Heard rate station role (now (samples .entry)) (now (lengths .entry)) (now (answers .entry)) (now (shown .entry)) r (now (answers .exit)) (now (shown .exit)) ⌝ }
+    ensures { λ r. ⌜
+        Heard rate station role (now (samples .entry)) (now (lengths .entry))
+        (now (answers .entry)) (now (shown .entry)) r (now (answers .exit)) (now (shown .exit)) ⌝ }
 {
     let heard = listen(rate, station, role_of(role), samples, lengths, answers);
     let answer = heard.answer;

@@ -1,9 +1,9 @@
 // The receiver, exported to C.
-use receivecalls::receive::received_from_fresh;
-use states::state::state_from_fresh;
+use calls::received_from_fresh;
+use snapshot::state_from_fresh;
 ghost use mathlib.Core.Path.{_≡_};
-ghost use Rattle.receivecalls.specs.Receive.{ran, receiveRun};
-ghost use Rattle.states.specs.ReceiverState.{shown, stateRun};
+ghost use Rattle.calls.specs.Receive.{ran, receiveRun};
+ghost use Rattle.snapshot.specs.ReceiverState.{shown, stateRun};
 
 #[no_mangle]
 pub extern "C" fn morkhetta_receive(
@@ -15,7 +15,9 @@ pub extern "C" fn morkhetta_receive(
     events: &mut [u8],
     answers: &mut [u64],
 ) -> usize
-    ensures { λ r. ⌜ ran r (now (bytes .exit)) (now (events .exit)) (now (answers .exit)) ≡ receiveRun rate role (now (samples .entry)) (now (script .entry)) (now (bytes .entry)) (now (events .entry)) (now (answers .entry)) ⌝ }
+    ensures { λ r. ⌜
+        ran r (now (bytes .exit)) (now (events .exit)) (now (answers .exit))
+        ≡ receiveRun rate role (now (samples .entry)) (now (script .entry)) (now (bytes .entry)) (now (events .entry)) (now (answers .entry)) ⌝ }
 {
     received_from_fresh(rate, role, samples, script, bytes, events, answers)
 }

@@ -1,6 +1,6 @@
 // The resampler, exported to C.
-use calls::resample::calls_from_fresh;
-use calls::resample::lengths_from_fresh;
+use calls::calls_from_fresh;
+use calls::lengths_from_fresh;
 ghost use mathlib.Core.Path.{_≡_};
 ghost use mathlib.Core.List.{[]};
 ghost use Rattle.calls.specs.Resample.{ran, resampleRun, lengthsRun};
@@ -26,7 +26,9 @@ pub extern "C" fn morkhetta_resample(
     output: &mut [f64],
     answers: &mut [u64],
 ) -> usize
-    ensures { λ r. ⌜ ran r (now (output .exit)) (now (answers .exit)) ≡ resampleRun src dst (now (input .entry)) (now (lengths .entry)) (now (output .entry)) (now (answers .entry)) ⌝ }
+    ensures { λ r. ⌜
+        ran r (now (output .exit)) (now (answers .exit))
+        ≡ resampleRun src dst (now (input .entry)) (now (lengths .entry)) (now (output .entry)) (now (answers .entry)) ⌝ }
 {
     calls_from_fresh(src, dst, input, lengths, output, answers)
 }

@@ -1,8 +1,8 @@
 // The sender, exported to C.
-use sendcalls::send::sent_from_fresh;
+use calls::sent_from_fresh;
 ghost use mathlib.Core.Path.{_≡_};
 ghost use Rattle.calls.specs.Resample.{ran};
-ghost use Rattle.sendcalls.specs.Send.{sendRun};
+ghost use Rattle.calls.specs.Send.{sendRun};
 
 #[no_mangle]
 pub extern "C" fn morkhetta_send(
@@ -13,7 +13,9 @@ pub extern "C" fn morkhetta_send(
     samples: &mut [f32],
     answers: &mut [u64],
 ) -> usize
-    ensures { λ r. ⌜ ran r (now (samples .exit)) (now (answers .exit)) ≡ sendRun rate role (now («data» .entry)) (now (script .entry)) (now (samples .entry)) (now (answers .entry)) ⌝ }
+    ensures { λ r. ⌜
+        ran r (now (samples .exit)) (now (answers .exit))
+        ≡ sendRun rate role (now («data» .entry)) (now (script .entry)) (now (samples .entry)) (now (answers .entry)) ⌝ }
 {
     sent_from_fresh(rate, role, data, script, samples, answers)
 }

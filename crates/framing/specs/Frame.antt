@@ -1,13 +1,11 @@
 -- 8-N-1 framing: "Start space, eight data bits lowest first, stop mark". Assumes nothing.
-use Prim.Native.Nat.{ℕ, _+_, _/_, _%_, _^_, _<_, _≤_, min}
-use mathlib.Core.Path.{_≡_, ap, _∙_}
+use Prim.Native.Nat.{ℕ, _+_, _/_, _%_, _^_, min}
+use mathlib.Core.Path.{_≡_}
 use mathlib.Core.List.{List, [], _∷_, _++_}
 use mathlib.Core.Bool.{Bool, true, false}
 use lib.Dec.{ltb, eqb}
-use native.Mathlib.Nat.{one-mul, add-comm}
-use lib.Bits.{bitOr, or-shifted-r}
-use borrow.Author.Tests.{lt-ltb, le-ltb}
-use Rattle.numeric.specs.F64.{if_then_else_}
+use lib.Bits.{bitOr}
+use Rattle.numeric.specs.If.{if_then_else_}
 use Rattle.framing.specs.declared.frame.Deframer.{Deframer}
 use Rattle.framing.specs.declared.frame.Heard.{Heard}
 use Rattle.framing.specs.declared.frame.Heard.the-variants.{Byte, Waiting}
@@ -50,10 +48,6 @@ idleBit d bit =
 abbrev pub withBit : ℕ → ℕ → Bool → ℕ
 withBit acc k bit = if bit then bitOr acc (2 ^ k) else acc
 
--- where the byte has nothing there yet, that adds 2^k
-pub bit-adds : (acc k : ℕ) → acc < 2 ^ k → withBit acc k mark ≡ acc + 2 ^ k
-bit-adds acc k h = rw one-mul at (or-shifted-r 1 k acc h) ∙ add-comm (2 ^ k) acc
-
 -- a data bit: one more bit of the byte
 unfoldable pub dataBit : Deframer → Bool → Pushed
 dataBit d bit =
@@ -93,23 +87,6 @@ frameBit d bit = if ltb (d .«bit_count») 8 then dataBit d bit else stopBit d b
 -- one bit
 unfoldable pub pushBit : Deframer → Bool → Pushed
 pushBit d bit = if d .«in_frame» then frameBit d bit else idleBit d bit
-
--- `pushBit` in each of the three positions
-pub push-idle : (d : Deframer) (bit : Bool) → d .«in_frame» ≡ false → pushBit d bit ≡ idleBit d bit
-unfolding pushBit
-push-idle d bit p = ap (λ (f : Bool). if f then frameBit d bit else idleBit d bit) p
-
-pub push-data : (d : Deframer) (bit : Bool) → d .«in_frame» ≡ true → d .«bit_count» < 8 → pushBit d bit ≡ dataBit d bit
-unfolding pushBit
-push-data d bit p h =
-    ap (λ (f : Bool). if f then frameBit d bit else idleBit d bit) p
-    ∙ ap (λ (f : Bool). if f then dataBit d bit else stopBit d bit) (lt-ltb _ _ h)
-
-pub push-stop : (d : Deframer) (bit : Bool) → d .«in_frame» ≡ true → 8 ≤ d .«bit_count» → pushBit d bit ≡ stopBit d bit
-unfolding pushBit
-push-stop d bit p h =
-    ap (λ (f : Bool). if f then frameBit d bit else idleBit d bit) p
-    ∙ ap (λ (f : Bool). if f then dataBit d bit else stopBit d bit) (le-ltb _ _ h)
 
 -- ---- a list of bits
 -- the bytes that an answer gives: one, or none

@@ -1,30 +1,12 @@
 -- What is framed is heard, and what is heard was framed. Assumes nothing.
-use Prim.Native.Nat.{ℕ, zero, suc, _+_, _*_, _/_, _<_, _≤_, min}
-use mathlib.Core.Path.{_≡_, refl, sym, ap, subst, _∙_}
-use mathlib.Core.Bool.{Bool, true, false, _&&_}
-use mathlib.Core.List.{List, [], _∷_, _++_, append-assoc}
-use native.Mathlib.Omega.{arith}
-use borrow.Author.Tests.{ltb-true, ltb-false}
-use lib.Dec.{T, ltb, ltb→lt, eqb, eqb→eq}
-use lib.ListN.{length, length-append, replicate}
-use Rattle.numeric.specs.F64.{if_then_else_}
+use Prim.Native.Nat.{ℕ, _+_, _<_, _≤_, min}
+use mathlib.Core.Path.{_≡_}
+use mathlib.Core.Bool.{Bool, true}
+use mathlib.Core.List.{List, [], _∷_, _++_}
+use lib.ListN.{replicate}
+use Rattle.numeric.specs.If.{if_then_else_}
 use Rattle.framing.specs.declared.frame.Deframer.{Deframer}
-use Rattle.framing.specs.declared.frame.Pushed.{Pushed}
-use Rattle.framing.specs.Frame.{mark, space, frameOf, Idle, oneMore, mostErrors, idleBit, dataBit, stopBit, badStop, pushBit, push-idle, push-data, push-stop, bytesOf, heard, after}
-use Rattle.numeric.specs.Tested.{both-left, both-right, at-number, at-bits, sameBits, same-bits}
-
--- ---- one list of bits after another
-pub heard-append : (d : Deframer) (xs ys : List Bool) → heard d (xs ++ ys) ≡ heard d xs ++ heard (after d xs) ys
-unfolding heard after
-heard-append d [] ys = refl
-heard-append d (x ∷ xs) ys =
-    ap (λ (l : List ℕ). bytesOf (pushBit d x .heard) ++ l) (heard-append (pushBit d x .state) xs ys)
-    ∙ sym (append-assoc (bytesOf (pushBit d x .heard)) (heard (pushBit d x .state) xs) (heard (after (pushBit d x .state) xs) ys))
-
-pub after-append : (d : Deframer) (xs ys : List Bool) → after d (xs ++ ys) ≡ after (after d xs) ys
-unfolding after
-after-append d [] ys = refl
-after-append d (x ∷ xs) ys = after-append (pushBit d x .state) xs ys
+use Rattle.framing.specs.Frame.{mark, space, frameOf, Idle, oneMore, heard, after}
 
 -- ---- framed bytes are heard
 -- a byte that is sent, and the number of marks before its frame
@@ -39,11 +21,6 @@ marks n = replicate n mark
 unfoldable pub framesOf : List ℕ → List Bool
 framesOf [] = []
 framesOf (b ∷ bs) = frameOf b ++ framesOf bs
-
-pub frames-length : (bs : List ℕ) → length (framesOf bs) ≡ 10 * length bs
-unfolding framesOf
-frames-length [] = refl
-frames-length (b ∷ bs) = rw (length-append (frameOf b) (framesOf bs)) (omega (arith, frames-length bs))
 
 -- the bits on the line: each byte's frame behind its marks, and so many marks at the end
 abbrev pub line : List Sent → ℕ → List Bool
@@ -66,85 +43,6 @@ pub record HeardAs (d : Deframer) (bits : List Bool) (bytes : List ℕ) : Type 0
   pub no-error : after d bits .errors ≡ d .errors
   pub idle : Idle (after d bits)
 
--- one list of bits after another
-pub joined : (d : Deframer) (xs ys : List Bool) (bs cs : List ℕ) → HeardAs d xs bs → HeardAs (after d xs) ys cs → HeardAs d (xs ++ ys) (bs ++ cs)
-joined d xs ys bs cs x y =
-    record {
-      same = heard-append d xs ys ∙ rw (x .same, y .same);
-      no-error = rw (after-append d xs ys) (y .no-error ∙ x .no-error);
-      idle = rw (after-append d xs ys) (y .idle);
-    }
-
--- every idle deframer is one of these
-abbrev idleWith : ℕ → ℕ → ℕ → Deframer
-idleWith n a e = record { «in_frame» = false; «bit_count» = n; acc = a; errors = e }
-
-idle-is : (d : Deframer) → Idle d → d ≡ idleWith (d .«bit_count») (d .acc) (d .errors)
-idle-is d p = ap (λ (f : Bool). record { «in_frame» = f; «bit_count» = d .«bit_count»; acc = d .acc; errors = d .errors }) p
-
-mark-is : (n a e : ℕ) → HeardAs (idleWith n a e) (mark ∷ []) []
-unfolding heard after pushBit idleBit
-mark-is n a e = record { same = refl; no-error = refl; idle = refl }
-
-pub marks-heard : (d : Deframer) → Idle d → (n : ℕ) → HeardAs d (marks n) []
-unfolding heard after
-marks-heard d p zero = record { same = refl; no-error = refl; idle = p }
-marks-heard d p (suc n) =
-    let m : HeardAs d (mark ∷ []) [] = rw (idle-is d p) (mark-is (d .«bit_count») (d .acc) (d .errors)) in
-    joined d (mark ∷ []) (marks n) [] [] m (marks-heard (after d (mark ∷ [])) (m .idle) n)
-
--- one test over the 256 bytes
-frame-held : (n a e : ℕ) (b : ℕ) → b < 256 → after (idleWith n a e) (frameOf b) .acc ≡ b
-unfolding after pushBit idleBit dataBit stopBit badStop
-frame-held n a e b h = eqb→eq _ b (at-number 256 (λ k. eqb (after (idleWith n a e) (frameOf k) .acc) k) tt b h)
-
-frame-is : (n a e : ℕ) (b : ℕ) → b < 256 → HeardAs (idleWith n a e) (frameOf b) (b ∷ [])
-unfolding heard after pushBit idleBit dataBit stopBit badStop
-frame-is n a e b h = record { same = ap (λ (x : ℕ). x ∷ []) (frame-held n a e b h); no-error = refl; idle = refl }
-
-pub frame-heard : (d : Deframer) → Idle d → (b : ℕ) → b < 256 → HeardAs d (frameOf b) (b ∷ [])
-frame-heard d p b h = rw (idle-is d p) (frame-is (d .«bit_count») (d .acc) (d .errors) b h)
-
-pub frames-heard : (d : Deframer) → Idle d → (bs : List ℕ) → AreBytes bs → HeardAs d (framesOf bs) bs
-unfolding framesOf heard after
-frames-heard d p [] _ = record { same = refl; no-error = refl; idle = p }
-frames-heard d p (b ∷ bs) h =
-    let f = frame-heard d p b (h .0) in
-    joined d (frameOf b) (framesOf bs) (b ∷ []) bs f (frames-heard (after d (frameOf b)) (f .idle) bs (h .1))
-
--- all bytes come back, the same and in order, whatever marks stand before, between and after them
-pub framed-heard : (d : Deframer) → Idle d → (ss : List Sent) (end : ℕ) → AreBytes (bytesSent ss) → HeardAs d (line ss end) (bytesSent ss)
-framed-heard d p [] end _ = marks-heard d p end
-framed-heard d p (s ∷ ss) end h =
-    let m = marks-heard d p (s .gap) in
-    let f = frame-heard (after d (marks (s .gap))) (m .idle) (s .byte) (h .0) in
-    joined d (marks (s .gap)) (frameOf (s .byte) ++ line ss end) [] (bytesSent (s ∷ ss)) m
-    (joined (after d (marks (s .gap))) (frameOf (s .byte)) (line ss end) (s .byte ∷ []) (bytesSent ss) f
-    (framed-heard (after (after d (marks (s .gap))) (frameOf (s .byte))) (f .idle) ss end (h .1)))
-
--- ---- what is heard was framed
--- a test: these bits yield nothing, or just one byte, whose frame they are
-abbrev framed : List ℕ → List Bool → Bool
-framed [] l = true
-framed (b ∷ []) l = sameBits l (frameOf b) && ltb b 256
-framed (b ∷ (c ∷ bs)) l = false
-
--- one test over the 1,024 lists of ten bits
-ten-bits : (n a e : ℕ) (l : List Bool) → length l ≡ 10 → T (framed (heard (idleWith n a e) l) l)
-unfolding heard pushBit idleBit dataBit stopBit badStop
-ten-bits n a e l h = at-bits 10 (λ m. framed (heard (idleWith n a e) m) m) tt l h
-
-framed-is : (b : ℕ) (bs : List ℕ) (l : List Bool) → T (framed (b ∷ bs) l) → (bs ≡ []) × (l ≡ frameOf b) × (b < 256)
-framed-is b [] l t =
-    (refl, same-bits l (frameOf b) (both-left (sameBits l (frameOf b)) (ltb b 256) t), ltb→lt b 256 (both-right (sameBits l (frameOf b)) (ltb b 256) t))
-framed-is b (c ∷ bs) l t = absurd t
-
--- ten bits from idle that yield a byte yield no other, and are that byte's frame
-pub heard-frame : (d : Deframer) → Idle d → (l : List Bool) → length l ≡ 10 → (b : ℕ) (bs : List ℕ) → heard d l ≡ b ∷ bs → (bs ≡ []) × (l ≡ frameOf b) × (b < 256)
-heard-frame d p l n b bs e =
-    framed-is b bs l
-    (subst (λ (r : List ℕ). T (framed r l)) (ap (λ (x : Deframer). heard x l) (sym (idle-is d p)) ∙ e) (ten-bits (d .«bit_count») (d .acc) (d .errors) l n))
-
 -- ---- a space in stop position
 -- eight data bits or more are in
 abbrev pub AtStop : Deframer → Type 0
@@ -157,81 +55,7 @@ pub record SpaceAtStop (d : Deframer) : Type 0 where
   pub nothing : heard d (space ∷ []) ≡ []
   pub starts-nothing : (n : ℕ) → HeardAs (after d (space ∷ [])) (marks n) []
 
-pub bad-stop : (d : Deframer) → AtStop d → SpaceAtStop d
-unfolding heard after stopBit badStop
-bad-stop d at =
-    let e : pushBit d space ≡ badStop d = push-stop d space (at .0) (at .1) in
-    let i : Idle (after d (space ∷ [])) = ap (λ (x : Pushed). x .state .«in_frame») e in
-    record {
-      one-error = ap (λ (x : Pushed). x .state .errors) e;
-      idle = i;
-      nothing = ap (λ (x : Pushed). bytesOf (x .heard) ++ []) e;
-      starts-nothing = marks-heard (after d (space ∷ [])) i;
-    }
-
--- "The error count holds at 4,294,967,295": one more below that, the same there
-pub one-more-below : (n : ℕ) → n < mostErrors → oneMore n ≡ n + 1
-one-more-below n h = omega arith
-
-pub one-more-held : oneMore mostErrors ≡ mostErrors
-one-more-held = refl
-
 -- ---- how many bytes so many bits can yield
 -- bits that the frame at hand has so far: none while idle, else the start bit and at most eight data bits
 abbrev pub held : Deframer → ℕ
 held d = if d .«in_frame» then 1 + min (d .«bit_count») 8 else 0
-
-held-idle : (d : Deframer) → Idle d → held d ≡ 0
-held-idle d p = ap (λ (f : Bool). if f then 1 + min (d .«bit_count») 8 else 0) p
-
-held-frame : (d : Deframer) → d .«in_frame» ≡ true → held d ≡ 1 + min (d .«bit_count») 8
-held-frame d p = ap (λ (f : Bool). if f then 1 + min (d .«bit_count») 8 else 0) p
-
-pub held-most : (d : Deframer) → held d ≤ 9
-held-most d = go (d .«in_frame»)
-  where
-    go : (f : Bool) → (if f then 1 + min (d .«bit_count») 8 else 0) ≤ 9
-    go true = omega arith
-    go false = omega arith
-
--- ten for each byte of an answer, and the bits held after it
-abbrev spent : Pushed → ℕ
-spent x = 10 * length (bytesOf (x .heard)) + held (x .state)
-
-idle-few : (d : Deframer) (bit : Bool) → spent (idleBit d bit) ≤ held d + 1
-unfolding idleBit
-idle-few d true = omega arith
-idle-few d false = omega arith
-
-stop-few : (d : Deframer) (bit : Bool) → spent (stopBit d bit) ≤ 10
-unfolding stopBit badStop
-stop-few d true = omega arith
-stop-few d false = omega arith
-
-step-few : (d : Deframer) (bit : Bool) → spent (pushBit d bit) ≤ held d + 1
-unfolding dataBit
-step-few d bit = either (d .«in_frame») refl
-  where
-    within : d .«in_frame» ≡ true → (t : Bool) → ltb (d .«bit_count») 8 ≡ t → spent (pushBit d bit) ≤ held d + 1
-    within e true t = rw (push-data d bit e (ltb-true _ _ t)) (omega (arith, held-frame d e, held-frame (dataBit d bit .state) e))
-    within e false t = rw (push-stop d bit e (ltb-false _ _ t)) (omega (arith, stop-few d bit, held-frame d e, ltb-false (d .«bit_count») 8 t))
-
-    either : (f : Bool) → d .«in_frame» ≡ f → spent (pushBit d bit) ≤ held d + 1
-    either false e = rw (push-idle d bit e) (idle-few d bit)
-    either true e = within e (ltb (d .«bit_count») 8) refl
-
--- ten bits make a byte: from any state, ten for each byte heard are at most the bits held before and the bits pushed
-pub heard-few : (d : Deframer) (bits : List Bool) → 10 * length (heard d bits) + held (after d bits) ≤ held d + length bits
-unfolding heard after
-heard-few d [] = omega arith
-heard-few d (bit ∷ bits) =
-    rw (length-append (bytesOf (pushBit d bit .heard)) (heard (pushBit d bit .state) bits))
-    (omega (arith, step-few d bit, heard-few (pushBit d bit .state) bits))
-
--- from idle
-pub heard-few-idle : (d : Deframer) → Idle d → (bits : List Bool) → length (heard d bits) ≤ length bits / 10
-heard-few-idle d p bits = omega (arith, heard-few d bits, held-idle d p)
-
--- from any state
-pub heard-few-any : (d : Deframer) (bits : List Bool) → length (heard d bits) ≤ length bits
-heard-few-any d bits = omega (arith, heard-few d bits, held-most d)

@@ -1,4 +1,4 @@
 // The same on floats with no header, two of which no board takes.
 fn main() {
-    listentext::run();
+    listen_app::run();
 }

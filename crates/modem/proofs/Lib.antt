@@ -1,2 +1,8 @@
--- Laws that more than one proof of `modem` cites.
+-- Laws that the proofs of the functions, and other crates, cite.
+pub mod Moves
+pub mod Hearing
+pub mod Resampled
 pub mod Receiving
+pub mod QueueLaws
+pub mod RxLaws
+pub mod RxCalls

@@ -8,14 +8,15 @@ use native.Mathlib.Omega.{arith}
 use borrow.Author.Tests.{ltb-false}
 use lib.ListN.{length}
 use lib.Ieee.{Float}
-use Rattle.refusal.specs.Refusals.{Reply, given, acceptanceOf, isAccepted, accepted-none, replyOf, first, rateRefused, ratesRefused}
+use Rattle.refusal.specs.Refusals.{Reply, given, acceptanceOf, isAccepted, replyOf, first, rateRefused, ratesRefused}
+use Rattle.refusal.proofs.RefusalLaws.{accepted-none}
 use Rattle.resampling.specs.Resample.{State, Made, made, newOf, fresh, state}
 use Rattle.modem.specs.Rx.{Receiver, refusalOf, acceptedBy, wrote, written, unlessRefused}
-use Rattle.samples.specs.Write.{refusedBy}
-use Rattle.samples.specs.Samples.{allInRange}
-use Rattle.framing.specs.Framing.{held-most}
+use Rattle.modem.specs.Write.{refusedBy}
+use Rattle.modem.specs.Samples.{allInRange}
+use Rattle.framing.proofs.FramingLaws.{held-most}
 use Rattle.demodulation.specs.Demod.{hearing}
-use Rattle.demodulation.specs.DemodLaws.{hearing-few}
+use Rattle.demodulation.proofs.DemodLaws.{hearing-few}
 use Rattle.demodulation.specs.declared.demod.Demodulator.{Demodulator}
 use Rattle.refusal.specs.declared.Acceptance.{Acceptance}
 use Rattle.refusal.specs.declared.Acceptance.the-variants as acceptance

@@ -1,5 +1,7 @@
--- The definitions that the contracts of `modem` cite, and the theorems about them.
+-- The definitions that the contracts of `modem` cite: queues, the checks of a write, what is heard, the receiver; `..Rep`: how the code holds it.
+pub mod Queue
+pub mod Samples
+pub mod Write
+pub mod Hear
 pub mod Rx
-pub mod RxHeld
-pub mod RxLaws
-pub mod RxCalls
+pub mod RxRep

@@ -1,18 +1,20 @@
 -- The receiver (rx.rs): the resampler and the demodulator, which hear; two queues; and the number of samples accepted. Assumes nothing.
-use Prim.Native.Nat.{ℕ, zero, suc, _+_}
-use mathlib.Core.Bool.{Bool}
-use mathlib.Core.List.{List, [], _++_}
+use Prim.Native.Nat.{ℕ, zero, suc, _+_, _≤_}
+use mathlib.Core.Bool.{Bool, true, not}
+use mathlib.Core.List.{List, [], _++_, _∷_}
 use lib.ListN.{length, take, drop}
 use lib.Ieee.{Float}
-use Rattle.numeric.specs.F64.{if_then_else_}
-use Rattle.refusal.specs.Refusals.{dspRate, Reply, given, refused, replyOf, rateRefused}
+use Rattle.numeric.specs.If.{if_then_else_}
+use Rattle.refusal.specs.Refusals.{dspRate, Reply, given, refused, replyOf, rateRefused, first, numberOf}
 use Rattle.resampling.specs.Resample as resample
-use Rattle.demodulation.specs.Demod.{hearing, freshDemodulator}
-use Rattle.samples.specs.Write.{refusedBy}
-use Rattle.hearing.specs.Hear.{resampled}
-use Rattle.queues.specs.Queue.{notingAll, readCount, readInto, readRest}
+use Rattle.demodulation.specs.Demod.{hearing, freshDemodulator, Tuned}
+use Rattle.modem.specs.Write.{refusedBy}
+use Rattle.modem.specs.Hear.{resampled}
+use Rattle.modem.specs.Queue.{loggingAll, readCount, readInto, readRest}
 use Rattle.bell103.specs.declared.Role.{Role}
 use Rattle.demodulation.specs.declared.demod.Demodulator.{Demodulator}
+use mathlib.Core.Path.{_≡_}
+use Rattle.refusal.specs.declared.Refusal.{Refusal}
 
 -- ---- what hears
 pub record Demod : Type 0 where
@@ -46,11 +48,11 @@ freshDemod rate role = demod (resample.fresh rate dspRate) (freshDemodulator rol
 pub record Receiver : Type 0 where
   pub demod : Demod
   pub waiting : List ℕ
-  pub noted : List Bool
+  pub logged : List Bool
   pub accepted : ℕ
 
 abbrev pub receiver : Demod → List ℕ → List Bool → ℕ → Receiver
-receiver d w e n = record { demod = d; waiting = w; noted = e; accepted = n }
+receiver d w e n = record { demod = d; waiting = w; logged = e; accepted = n }
 
 unfoldable pub freshReceiver : ℕ → Role → Receiver
 freshReceiver rate role = receiver (freshDemod rate role) [] [] 0
@@ -82,7 +84,7 @@ wrote a r = record { answer = a; state = r }
 unfoldable pub acceptedBy : Receiver → List Float → Receiver
 acceptedBy r xs =
     let h = heardBy (r .demod) xs in
-    receiver (h .after) (r .waiting ++ h .bytes) (notingAll (r .noted) (h .events)) (r .accepted + length xs)
+    receiver (h .after) (r .waiting ++ h .bytes) (loggingAll (r .logged) (h .events)) (r .accepted + length xs)
 
 -- "A refused call returns its number alone and leaves state and buffers untouched"
 abbrev pub unlessRefused : ℕ → Receiver → Receiver → Written
@@ -104,7 +106,7 @@ readOut n r b = record { count = n; state = r; buf = b }
 -- as many as wait and as buf has room for, oldest first; the rest of buf is left alone
 unfoldable pub readOf : Receiver → List ℕ → ReadOut
 readOf r buf =
-    readOut (readCount (r .waiting) buf) (receiver (r .demod) (readRest (r .waiting) buf) (r .noted) (r .accepted)) (readInto (r .waiting) buf)
+    readOut (readCount (r .waiting) buf) (receiver (r .demod) (readRest (r .waiting) buf) (r .logged) (r .accepted)) (readInto (r .waiting) buf)
 
 pub record Taken : Type 0 where
   pub event : List Bool
@@ -115,7 +117,7 @@ taken e r = record { event = e; state = r }
 
 -- the oldest event, if there is one; true is up
 unfoldable pub eventOf : Receiver → Taken
-eventOf r = taken (take 1 (r .noted)) (receiver (r .demod) (r .waiting) (drop 1 (r .noted)) (r .accepted))
+eventOf r = taken (take 1 (r .logged)) (receiver (r .demod) (r .waiting) (drop 1 (r .logged)) (r .accepted))
 
 -- the latched report
 abbrev pub carrierOf : Receiver → Bool
@@ -123,3 +125,49 @@ carrierOf r = r .demod .inner .core .latch .qualified
 
 abbrev pub errorsOf : Receiver → ℕ
 errorsOf r = r .demod .inner .core .deframer .errors
+
+-- a Demod that a fresh one and its writes gave: it goes down to 8,000 Hz
+pub record Listens (d : Demod) : Type 0 where
+  pub from : dspRate ≤ d .resampler .src
+  pub to : d .resampler .dst ≡ dspRate
+  pub tuned : Tuned (d .inner)
+
+-- ---- a list of accepted writes, one after the other
+unfoldable pub heardOver : Demod → List (List Float) → Heard
+heardOver d [] = record { after = d; bytes = []; events = [] }
+heardOver d (xs ∷ xss) =
+    let h = heardBy d xs in
+    let rest = heardOver (h .after) xss in
+    record { after = rest .after; bytes = h .bytes ++ rest .bytes; events = h .events ++ rest .events }
+
+-- the number of their samples
+abbrev pub samplesIn : List (List Float) → ℕ
+samplesIn [] = 0
+samplesIn (xs ∷ xss) = length xs + samplesIn xss
+
+-- ---- `new`: the rate that it makes a state at, and its answer
+unfoldable pub admitted : ℕ → ℕ
+admitted rate = if rateRefused rate then dspRate else rate
+
+-- accepted: no check applied, and the bytes heard joined those that waited
+pub record Accepts (r : Receiver) (xs : List Float) (after : Receiver) : Type 0 where
+  pub number : refusalOf r xs ≡ 0
+  pub demod : after .demod ≡ heardBy (r .demod) xs .after
+  pub waiting : after .waiting ≡ r .waiting ++ heardBy (r .demod) xs .bytes
+  pub logged : after .logged ≡ loggingAll (r .logged) (heardBy (r .demod) xs .events)
+  pub accepted : after .accepted ≡ r .accepted + length xs
+
+-- refused: its number, which is not 0, and nothing changed
+pub record Refuses (r : Receiver) (xs : List Float) (why : Refusal) (after : Receiver) : Type 0 where
+  pub number : refusalOf r xs ≡ numberOf why
+  pub some : numberOf why ≡ 0 → ⊥
+  pub same : after ≡ r
+
+-- ---- `read`, with room for all that wait
+pub record ReadsAll (r : Receiver) (n : ℕ) (after : Receiver) (buf : List ℕ) : Type 0 where
+  pub count : n ≡ length (r .waiting)
+  pub bytes : take n buf ≡ r .waiting
+  pub demod : after .demod ≡ r .demod
+  pub waiting : after .waiting ≡ []
+  pub logged : after .logged ≡ r .logged
+  pub accepted : after .accepted ≡ r .accepted

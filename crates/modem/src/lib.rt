@@ -1,2 +1,21 @@
-// The receiver: samples in, and bytes and carrier events out.
-pub mod rx;
+// The port's face: the receiver (rx.rs), and what the crates below have of the Rust's public parts.
+//
+//   samples   the samples of a call, tested and widened     specs/Samples.antt
+//   write     the checks of a write                         specs/Write.antt
+//   queue     bytes heard and carrier events that wait      specs/Queue.antt
+//   hear      a call's samples into queues                  specs/Hear.antt
+//   rx        the receiver                                  specs/Rx.antt, RxRep.antt
+mod hear;
+mod queue;
+mod rx;
+mod samples;
+mod write;
+
+pub use bell103::Role;
+pub use bell103::tones;
+pub use demodulation::Event;
+pub use framing::frame::Deframer;
+pub use framing::frame::frame_byte;
+pub use modulation::Tx;
+pub use resampling::Resampler;
+pub use rx::Rx;

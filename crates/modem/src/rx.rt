@@ -1,34 +1,39 @@
 // The receiver: device samples in, bytes and carrier events out.
+use crate::hear::hear;
+use crate::hear::hear_plain;
+use crate::hear::resample_into;
+use crate::queue::Bytes;
+use crate::queue::Events;
+use crate::write::check;
 use bell103::Role;
-use demodulation::demod::Demodulator;
-use demodulation::demod::Event;
-use hearing::hear::hear;
-use hearing::hear::hear_plain;
-use hearing::hear::resample_into;
-use queues::queue::Bytes;
-use queues::queue::Events;
+use demodulation::Demodulator;
+use demodulation::Event;
 use refusal::Acceptance;
 use refusal::DSP_RATE;
 use refusal::Refusal;
 use refusal::is_accepted;
 use refusal::rate_ok;
-use resampling::resample::Resampler;
-use samples::write::check;
+use resampling::Resampler;
 ghost use mathlib.Core.Path.{_≡_};
 ghost use mathlib.Core.Bool.{true, false};
+ghost use Prim.Native.Nat.{_≤_};
+ghost use lib.ListN.{length};
 ghost use Rattle.refusal.specs.Refusals.{acceptanceOf, rateRefused};
-ghost use Rattle.demodulation.specs.Demod.{eventsOf};
-ghost use Rattle.samples.specs.Write.{refusedBy};
+ghost use Rattle.resampling.specs.Resample.{equalRates};
+ghost use Rattle.resampling.specs.ResampleRep.{stateOf, Sound};
+ghost use Rattle.demodulation.specs.Demod.{eventsOf, Tuned};
+ghost use Rattle.modem.specs.Queue.{mostBytes, mostEvents};
+ghost use Rattle.modem.specs.Write.{refusedBy};
 ghost use Rattle.modem.specs.Rx.{newOf, made, freshReceiver, acceptedBy, written, wrote, readOf, readOut, eventOf, taken, carrierOf, errorsOf};
-ghost use Rattle.modem.specs.RxHeld.{receiverOf, RxSound};
+ghost use Rattle.modem.specs.RxRep.{receiverOf, RxSound};
 
 pub struct Rx {
-    pub resampler: Resampler,
-    pub demod: Demodulator,
-    pub out: Bytes,
-    pub events: Events,
+    resampler: Resampler,
+    demod: Demodulator,
+    out: Bytes,
+    events: Events,
     // Samples accepted so far.
-    pub accepted: u64,
+    accepted: u64,
 }
 
 // What `new` answers, and the state; refused, it gives the one at 8,000.
@@ -61,7 +66,7 @@ fn zeros_1026() -> [f64; 1026] {
 
 // The state after a write that no check refused, at 8,000 Hz. The resampler would copy, so it is left alone.
 fn accept_plain(mut rx: Rx, samples: &[f32]) -> Rx
-    requires { ⌜ RxSound rx × (refusedBy (now samples) (rx .accepted) (rx .out .count) ≡ 0) × (rx .resampler .identity ≡ true) ⌝ }
+    requires { ⌜ RxSound rx × (refusedBy (now samples) (rx .accepted) (rx .out .count) ≡ 0) × (equalRates (stateOf (rx .resampler)) ≡ true) ⌝ }
     ensures { λ r. ⌜ (receiverOf r ≡ acceptedBy (receiverOf rx) (now (samples .entry))) × RxSound r ⌝ }
 {
     let demod0 = rx.demod;
@@ -117,7 +122,8 @@ fn accept(rx: Rx, samples: &[f32]) -> Rx
     requires { ⌜ RxSound rx × (refusedBy (now samples) (rx .accepted) (rx .out .count) ≡ 0) ⌝ }
     ensures { λ r. ⌜ (receiverOf r ≡ acceptedBy (receiverOf rx) (now (samples .entry))) × RxSound r ⌝ }
 {
-    if rx.resampler.identity {
+    let resampler = rx.resampler;
+    if resampler.is_identity() {
         return accept_plain(rx, samples);
     }
     accept_resampled(rx, samples)
@@ -216,8 +222,47 @@ impl Rx {
         ensures { λ r. ⌜ r ≡ errorsOf (receiverOf self) ⌝ }
     {
         let d = self.demod;
-        let c = d.core;
-        let f = c.deframer;
+        let f = d.deframer();
         f.framing_errors()
+    }
+
+    // How many bytes wait, and how many events.
+    pub fn waiting(self) -> usize
+        requires { ⌜ RxSound self ⌝ }
+        ensures { λ r. ⌜ (r ≡ length (receiverOf self .waiting)) × (r ≤ mostBytes) ⌝ }
+    {
+        self.out.count
+    }
+
+    pub fn events_waiting(self) -> usize
+        requires { ⌜ RxSound self ⌝ }
+        ensures { λ r. ⌜ (r ≡ length (receiverOf self .logged)) × (r ≤ mostEvents) ⌝ }
+    {
+        self.events.count
+    }
+
+    // How many samples were accepted so far.
+    pub fn accepted(self) -> u64
+        requires { ⌜ RxSound self ⌝ }
+        ensures { λ r. ⌜ (r ≡ receiverOf self .accepted) × (r ≤ 4294967296) ⌝ }
+    {
+        self.accepted
+    }
+
+    // What it hears with.
+    pub fn resampler(self) -> Resampler
+        requires { ⌜ RxSound self ⌝ }
+        ensures { λ r. ⌜ (stateOf r ≡ receiverOf self .demod .resampler) × Sound r ⌝ }
+    {
+        let resampler = self.resampler;
+        resampler
+    }
+
+    pub fn demodulator(self) -> Demodulator
+        requires { ⌜ RxSound self ⌝ }
+        ensures { λ r. ⌜ (r ≡ receiverOf self .demod .inner) × Tuned r ⌝ }
+    {
+        let demod = self.demod;
+        demod
     }
 }

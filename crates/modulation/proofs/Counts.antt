@@ -2,11 +2,11 @@
 use Prim.Native.Nat.{ℕ, zero, suc, _+_, _-_, _*_, _/_, _%_, _≤_, _<_}
 use mathlib.Core.Path.{_≡_}
 use mathlib.Core.Bool.{Bool, true, false}
-use native.Mathlib.Nat.{lt-of-mul-lt-mul-right, div-add-mod, mod-lt, mul-comm, mul-le-mul-left, add-mul, mul-le-mul}
+use native.Mathlib.Nat.{lt-of-mul-lt-mul-right, div-add-mod, mod-lt, mul-comm, mul-le-mul-left, add-mul}
 use native.Mathlib.Omega.{arith}
 use lib.Dec.{eqb}
 use borrow.Author.Tests.{ne-eqb}
-use Rattle.numeric.specs.F64.{if_then_else_}
+use Rattle.numeric.specs.If.{if_then_else_}
 use Rattle.numeric.specs.Counts.{need, outputLen}
 use Rattle.resampling.specs.Resample.{maxOutputLen}
 

@@ -4,24 +4,25 @@ use mathlib.Core.Path.{_≡_, sym, ap, ap₂, _∙_}
 use mathlib.Core.Bool.{Bool}
 use mathlib.Core.List.{List, [], _++_, map}
 use native.Mathlib.Omega.{arith}
-use lib.ListN.{length, take, drop, length-take, length-drop, length-map}
+use lib.ListN.{length, take, drop, length-drop, length-map}
 use lib.Seq.{take-at, length-take-le, take-append-seam}
 use lib.Ieee.{Float}
 use Rattle.numeric.specs.Counts.{need}
-use Rattle.refusal.specs.Refusals.{countOf, countIn, count-given}
-use Rattle.bitqueue.specs.Bits.{BitsHeld}
+use Rattle.refusal.specs.Refusals.{countOf, countIn}
+use Rattle.refusal.proofs.RefusalLaws.{count-given}
+use Rattle.modulation.specs.Bits.{BitsHeld}
 use Rattle.resampling.specs.Resample.{State, ranOver, maxOutputLen, Outcome, outcome, processed}
-use Rattle.feeding.specs.Flow.{Ran}
-use Rattle.resampling.specs.ResampleLaws.{accepted, ran-few}
-use Rattle.resampling.specs.ResampleHeld as resample
-use Rattle.resampling.specs.ResampleHeld.{stateOf}
+use Rattle.resampling.specs.Flow.{Ran}
+use Rattle.resampling.proofs.ResampleLaws.{accepted, ran-few}
+use Rattle.resampling.specs.ResampleRep as resample
+use Rattle.resampling.specs.ResampleRep.{stateOf}
 use Rattle.refusal.specs.declared.Counted.{Counted}
 use Rattle.bell103.specs.declared.TonePair.{TonePair}
 use Rattle.resampling.specs.declared.resample.Resampler.{Resampler}
 use Rattle.modulation.specs.declared.modulate.Wave.{Wave}
 use Rattle.modulation.specs.Tone.{Keyer, Sound, sound, generated}
 use Rattle.modulation.specs.Modulator.{Modulator, modulator, scaled, madeFor, batch, passed, handed, pass}
-use Rattle.modulation.specs.ModulatorHeld.{keyerOf, Rising, HandsOver, SharesInto, MakesInto, EqualInto, PassesInto}
+use Rattle.modulation.specs.ModulatorRep.{keyerOf, Rising, HandsOver, SharesInto, MakesInto, EqualInto, PassesInto}
 use Rattle.modulation.proofs.Slices.{take-map, drop-map, take-least, drop-least, take-rest}
 use Rattle.modulation.proofs.Tones.{generated-length}
 use Rattle.modulation.proofs.Counts.{surplus}

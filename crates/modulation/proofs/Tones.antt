@@ -10,25 +10,26 @@ use lib.Seq.{take-suc-set, take-all, drop-length}
 use lib.Ieee.{Float}
 use Rattle.numeric.specs.F64.{_⊕_, _⊖_, _⊘_, _≤ᶠ_, one64}
 use Rattle.numeric.specs.Sine.{sineOf}
-use Rattle.bitqueue.specs.Bits.{queued, Takes}
+use Rattle.modulation.specs.Bits.{queued, Takes}
 use Rattle.bell103.specs.Roles.{samplesPerSymbol}
-use Rattle.bell103.specs.Nco.{turned, ncoSetFreq, ncoNext}
-use Rattle.bitqueue.specs.declared.Taken.{Taken}
+use Rattle.modulation.specs.Nco.{ncoSetFreq, ncoNext}
+use Rattle.numeric.specs.Phase.{turned}
+use Rattle.modulation.specs.declared.bits.Taken.{Taken}
 use Rattle.bell103.specs.declared.TonePair.{TonePair}
-use Rattle.bell103.specs.declared.nco.Nco.{Nco}
-use Rattle.modulation.specs.Tone.{Keyer, keyer, toneOf, struck, clocked, Tick, tick, ticked, Sound, sound, generated}
+use Rattle.modulation.specs.declared.nco.Nco.{Nco}
+use Rattle.modulation.specs.Tone.{Keyer, keyer, toneOf, keyed, clocked, Tick, tick, ticked, Sound, sound, generated}
 
-pub struck-is : (a : List Bool) (h n : ℕ) (t : TonePair) (nco tuned : Nco) (pos freq : Float) (k : Taken) → Takes a h n k → freq ≡ toneOf t (k .bit)
-    → tuned ≡ ncoSetFreq nco freq → keyer tuned pos (k .bit) (queued a (k .head) (k .waiting)) ≡ struck t nco pos (queued a h n)
-unfolding struck
-struck-is a h n t nco tuned pos freq k u ef et = rw (et, ef, u .bit, u .rest)
+pub keyed-is : (a : List Bool) (h n : ℕ) (t : TonePair) (nco tuned : Nco) (pos freq : Float) (k : Taken) → Takes a h n k → freq ≡ toneOf t (k .bit)
+    → tuned ≡ ncoSetFreq nco freq → keyer tuned pos (k .bit) (queued a (k .head) (k .waiting)) ≡ keyed t nco pos (queued a h n)
+unfolding keyed
+keyed-is a h n t nco tuned pos freq k u ef et = rw (et, ef, u .bit, u .rest)
 
 -- ---- a sample
 module _ (t : TonePair) (k : Keyer) (p d : Float) (e : p ≡ turned (k .nco .phase) (k .nco .inc)) (ed : d ≡ samplesPerSymbol) where
   abbrev on : Nco
   on = record { phase = p; inc = k .nco .inc; «sample_rate» = k .nco .«sample_rate» }
 
-  pub after-symbol : (k′ : Keyer) → one64 ≤ᶠ k .symPos ⊕ one64 ⊘ d ≡ true → k′ ≡ struck t on (k .symPos ⊕ one64 ⊘ d ⊖ one64) (k .bits) → k′ ≡ ticked t k .after
+  pub after-symbol : (k′ : Keyer) → one64 ≤ᶠ k .symPos ⊕ one64 ⊘ d ≡ true → k′ ≡ keyed t on (k .symPos ⊕ one64 ⊘ d ⊖ one64) (k .bits) → k′ ≡ ticked t k .after
   unfolding ticked clocked ncoNext
   after-symbol k′ w ek = rw (← e, ← ed, w, ek)
 

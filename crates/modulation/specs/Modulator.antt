@@ -1,5 +1,5 @@
 -- The modulator (tx.rs, `read`): tones at 8,000 Hz to samples at the device's rate, pass by pass. What waits is a list here; how the code
--- holds it stands in specs/ModulatorHeld.antt. Assumes nothing.
+-- holds it stands in specs/ModulatorRep.antt. Assumes nothing.
 use Prim.Native.Nat.{ℕ}
 use mathlib.Core.List.{List, map}
 use lib.ListN.{take, drop}
@@ -7,7 +7,7 @@ use lib.Ieee.{Float, binary32, mul}
 use Rattle.numeric.specs.Convert.{narrowed}
 use Rattle.numeric.specs.Counts.{need}
 use Rattle.resampling.specs.Resample.{State, state, ranOver, maxOutputLen}
-use Rattle.feeding.specs.Flow.{Ran}
+use Rattle.resampling.specs.Flow.{Ran}
 use Rattle.bell103.specs.declared.TonePair.{TonePair}
 use Rattle.modulation.specs.Tone.{Keyer, keyer, Sound, generated}
 

@@ -4,12 +4,13 @@ use Prim.Native.Nat.{ℕ, zero, suc}
 use mathlib.Core.Bool.{Bool, true, false}
 use mathlib.Core.List.{List, [], _∷_}
 use lib.Ieee.{Float}
-use Rattle.numeric.specs.F64.{_⊕_, _⊖_, _⊘_, _≤ᶠ_, if_then_else_, one64}
-use Rattle.bitqueue.specs.Bits.{nextBit, restBits}
+use Rattle.numeric.specs.F64.{_⊕_, _⊖_, _⊘_, _≤ᶠ_, one64}
+use Rattle.numeric.specs.If.{if_then_else_}
+use Rattle.modulation.specs.Bits.{nextBit, restBits}
 use Rattle.bell103.specs.Roles.{samplesPerSymbol}
-use Rattle.bell103.specs.Nco.{ncoSetFreq, ncoNext}
+use Rattle.modulation.specs.Nco.{ncoSetFreq, ncoNext}
 use Rattle.bell103.specs.declared.TonePair.{TonePair}
-use Rattle.bell103.specs.declared.nco.Nco.{Nco}
+use Rattle.modulation.specs.declared.nco.Nco.{Nco}
 
 -- the oscillator, how much of the symbol is over, the bit that sounds, and the bits that wait, oldest first
 pub record Keyer : Type 0 where
@@ -31,12 +32,12 @@ toneOf t true = t .mark
 toneOf t false = t .space
 
 -- the next symbol: the oldest bit, or mark while idle; the oscillator keeps its phase
-unfoldable pub struck : TonePair → Nco → Float → List Bool → Keyer
-struck t n pos bs = keyer (ncoSetFreq n (toneOf t (nextBit bs))) pos (nextBit bs) (restBits bs)
+unfoldable pub keyed : TonePair → Nco → Float → List Bool → Keyer
+keyed t n pos bs = keyer (ncoSetFreq n (toneOf t (nextBit bs))) pos (nextBit bs) (restBits bs)
 
 -- the symbol clock: from 1.0 on the next symbol begins, and what is over 1.0 is kept
 unfoldable pub clocked : TonePair → Nco → Float → Bool → List Bool → Keyer
-clocked t n pos current bs = if one64 ≤ᶠ pos then struck t n (pos ⊖ one64) bs else keyer n pos current bs
+clocked t n pos current bs = if one64 ≤ᶠ pos then keyed t n (pos ⊖ one64) bs else keyer n pos current bs
 
 -- one sample, and the keyer after it
 pub record Tick : Type 0 where

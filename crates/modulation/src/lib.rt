@@ -1,3 +1,17 @@
-// A pass of the sender over the unwritten rest of a slice: bits to tones, tones to samples at the device's rate.
-// Inner parts for the crates above, which meet what they require: no entry for hosts.
-pub mod modulate;
+// The sender: bytes to bits, bits to tones, tones to samples at the device's rate (tx.rs, and nco.rs's Nco). What is inside is private; `modem`
+// gives `Tx` on.
+//
+//   bits       the bits that wait                            specs/Bits.antt, Requests.antt
+//   nco        the oscillator                                specs/Nco.antt
+//   modulate   one pass over the unwritten rest of a slice   specs/Tone.antt, Modulator.antt, ModulatorRep.antt
+//   tx         the sender                                    specs/Tx.antt, TxRep.antt
+//   queueing   what a caller queues                          specs/Queueing.antt
+mod bits;
+mod modulate;
+mod nco;
+mod queueing;
+mod tx;
+
+pub use queueing::Queueing;
+pub use tx::Adjusted;
+pub use tx::Tx;

@@ -1,27 +1,28 @@
 // A pass of the sender: generates tones, resamples them, and shares what was made out between the slice and what is pending.
+use crate::bits::take_bit;
+use crate::nco::Nco;
 use bell103::TonePair;
-use bell103::nco::Nco;
-use bell103::nco::turn;
 use bell103::samples_per_symbol;
-use bitqueue::take_bit;
 use numeric::convert::narrow;
 use numeric::counts::ceiling;
 use numeric::counts::nearest;
+use numeric::ends::smaller;
+use numeric::phase::turn;
 use numeric::sine::sine;
 use numeric::sines::sines;
 use refusal::count_in;
-use resampling::resample::Resampler;
+use resampling::Resampler;
 ghost use mathlib.Core.Path.{_≡_};
-ghost use mathlib.Core.List.{[], _∷_, map};
-ghost use Prim.Native.Nat.{min, _+_, _*_, _≤_, _<_};
+ghost use mathlib.Core.List.{map};
+ghost use Prim.Native.Nat.{_+_, _*_, _≤_, _<_};
 ghost use lib.ListN.{length};
 ghost use Rattle.numeric.specs.Counts.{need};
-ghost use Rattle.bitqueue.specs.Bits.{queued, BitsHeld};
+ghost use Rattle.modulation.specs.Bits.{queued, BitsHeld};
 ghost use Rattle.resampling.specs.Resample.{maxOutputLen};
-ghost use Rattle.resampling.specs.ResampleHeld.{Sound};
-ghost use Rattle.modulation.specs.Tone.{toneOf, struck, tick, ticked, sound, generated};
+ghost use Rattle.resampling.specs.ResampleRep.{Sound};
+ghost use Rattle.modulation.specs.Tone.{toneOf, keyed, tick, ticked, sound, generated};
 ghost use Rattle.modulation.specs.Modulator.{scaled};
-ghost use Rattle.modulation.specs.ModulatorHeld.{keyerOf, modulatorBy, Rising, MakesInto, SharesInto, EqualInto, PassesInto, HandsOver};
+ghost use Rattle.modulation.specs.ModulatorRep.{keyerOf, WaveHeld, fourOf, Rising, MakesInto, SharesInto, EqualInto, PassesOver, HandsOver};
 
 // What moves with each sample: the oscillator, the symbol clock, and where the bits that wait stand in their ring.
 pub struct Wave {
@@ -50,7 +51,7 @@ fn next_symbol(
     waiting: usize,
 ) -> Wave
     requires { ⌜ BitsHeld (now bits) head waiting ⌝ }
-    ensures { λ r. ⌜ keyerOf (now (bits .entry)) r ≡ struck t nco «sym_pos» (queued (now (bits .entry)) head waiting) ⌝ }
+    ensures { λ r. ⌜ keyerOf (now (bits .entry)) r ≡ keyed t nco «sym_pos» (queued (now (bits .entry)) head waiting) ⌝ }
     ensures { λ r. ⌜ BitsHeld (now (bits .entry)) (r .head) (r .waiting) ⌝ }
 {
     let next = take_bit(bits, head, waiting);
@@ -118,7 +119,7 @@ struct TickedFour {
 // Four samples, their sines side by side.
 fn step_four(bits: &[bool; 4096], t: TonePair, w: Wave) -> TickedFour
     requires { ⌜ BitsHeld (now bits) (w .head) (w .waiting) ⌝ }
-    ensures { λ r. ⌜ sound (r .first ∷ r .second ∷ r .third ∷ r .fourth ∷ []) (keyerOf (now (bits .entry)) (r .wave)) ≡ generated 4 t (keyerOf (now (bits .entry)) w) ⌝ }
+    ensures { λ r. ⌜ sound (fourOf r) (keyerOf (now (bits .entry)) (r .wave)) ≡ generated 4 t (keyerOf (now (bits .entry)) w) ⌝ }
     ensures { λ r. ⌜ BitsHeld (now (bits .entry)) (r .wave .head) (r .wave .waiting) ⌝ }
 {
     let one = advance(bits, t, w);
@@ -207,18 +208,12 @@ fn copy(xs: &[f32], out: &mut [f32])
     }
 }
 
-fn lesser(a: usize, b: usize) -> usize
-    ensures { λ r. ⌜ r ≡ min a b ⌝ }
-{
-    if a < b { a } else { b }
-}
-
 // Hands over what is pending, as far as there is room, and says how much that is.
-pub fn hand_over(waiting: &[f32], out: &mut [f32]) -> usize
+pub(crate) fn hand_over(waiting: &[f32], out: &mut [f32]) -> usize
     ensures { λ r. ⌜ HandsOver (now (waiting .entry)) (length (now (out .entry))) (now (out .exit)) r ⌝ }
 {
     let n = out.len();
-    let count = lesser(n, waiting.len());
+    let count = smaller(n, waiting.len());
     copy(&waiting[..count], &mut out[..count]);
     count
 }
@@ -230,7 +225,7 @@ fn share(xs: &[f64], a: f32, pending: &mut [f32], rest: &mut [f32]) -> usize
 {
     let k = xs.len();
     let n = rest.len();
-    let count = lesser(n, k);
+    let count = smaller(n, k);
     scale_into(&xs[..count], a, &mut rest[..count]);
     let surplus = k - count;
     scale_into(&xs[count..], a, &mut pending[..surplus]);
@@ -270,7 +265,9 @@ fn make(
     scratch: &mut [f64],
     out: &mut [f64],
 ) -> Made
-    requires { ⌜ BitsHeld (now bits) (w .head) (w .waiting) × Sound r × (length (now scratch) ≤ 2048) × (length (now out) ≡ maxOutputLen (r .«src_rate») (r .«dst_rate») (length (now scratch))) ⌝ }
+    requires { ⌜
+        WaveHeld (now bits) w × Sound r × (length (now scratch) ≤ 2048)
+        × (length (now out) ≡ maxOutputLen (r .«src_rate») (r .«dst_rate») (length (now scratch))) ⌝ }
     ensures { λ m. ⌜ MakesInto (now (bits .entry)) t w r (length (now (scratch .entry))) (now (out .exit)) (m .count) (m .wave) (m .resampler) ⌝ }
 {
     let wave = generate(bits, t, w, scratch);
@@ -311,9 +308,9 @@ fn pass_in(
     pending: &mut [f32],
     rest: &mut [f32],
 ) -> Passed
-    requires { ⌜ BitsHeld (now bits) (w .head) (w .waiting) × Rising (s .rate) r × (length (now rest) ≤ 1024) × (length (now pending) ≡ 64) ⌝ }
+    requires { ⌜ WaveHeld (now bits) w × Rising (s .rate) r × (length (now rest) ≤ 1024) × (length (now pending) ≡ 64) ⌝ }
     requires { ⌜ (length (now scratch) ≡ need (length (now rest)) (s .rate)) × (length (now out) ≡ maxOutputLen 8000 (s .rate) (need (length (now rest)) (s .rate))) ⌝ }
-    ensures { λ p. ⌜ PassesInto (modulatorBy (now (bits .entry)) s w r) (length (now (rest .entry))) (now (bits .entry)) (now (rest .exit)) (p .count) (now (pending .exit)) (p .upto) (p .wave) (p .resampler) ⌝ }
+    ensures { λ p. ⌜ PassesOver (now (bits .entry)) s w r (length (now (rest .entry))) (now (rest .exit)) (now (pending .exit)) p ⌝ }
 {
     let t = s.tones;
     let m = make(bits, t, w, r, scratch, out);
@@ -350,8 +347,8 @@ fn pass_short(
     pending: &mut [f32],
     rest: &mut [f32],
 ) -> Passed
-    requires { ⌜ BitsHeld (now bits) (w .head) (w .waiting) × Rising (s .rate) r × (8000 < s .rate) × (length (now rest) ≤ 64) × (length (now pending) ≡ 64) ⌝ }
-    ensures { λ p. ⌜ PassesInto (modulatorBy (now (bits .entry)) s w r) (length (now (rest .entry))) (now (bits .entry)) (now (rest .exit)) (p .count) (now (pending .exit)) (p .upto) (p .wave) (p .resampler) ⌝ }
+    requires { ⌜ WaveHeld (now bits) w × Rising (s .rate) r × (8000 < s .rate) × (length (now rest) ≤ 64) × (length (now pending) ≡ 64) ⌝ }
+    ensures { λ p. ⌜ PassesOver (now (bits .entry)) s w r (length (now (rest .entry))) (now (rest .exit)) (now (pending .exit)) p ⌝ }
 {
     let n = rest.len();
     let k = need_for(n, s.rate);
@@ -379,8 +376,8 @@ fn pass_long(
     pending: &mut [f32],
     rest: &mut [f32],
 ) -> Passed
-    requires { ⌜ BitsHeld (now bits) (w .head) (w .waiting) × Rising (s .rate) r × (8000 < s .rate) × (length (now rest) ≤ 1024) × (length (now pending) ≡ 64) ⌝ }
-    ensures { λ p. ⌜ PassesInto (modulatorBy (now (bits .entry)) s w r) (length (now (rest .entry))) (now (bits .entry)) (now (rest .exit)) (p .count) (now (pending .exit)) (p .upto) (p .wave) (p .resampler) ⌝ }
+    requires { ⌜ WaveHeld (now bits) w × Rising (s .rate) r × (8000 < s .rate) × (length (now rest) ≤ 1024) × (length (now pending) ≡ 64) ⌝ }
+    ensures { λ p. ⌜ PassesOver (now (bits .entry)) s w r (length (now (rest .entry))) (now (rest .exit)) (now (pending .exit)) p ⌝ }
 {
     let n = rest.len();
     let k = need_for(n, s.rate);
@@ -400,7 +397,7 @@ fn pass_long(
 }
 
 // One pass over the unwritten rest of the caller's slice.
-pub fn pass(
+pub(crate) fn pass(
     bits: &[bool; 4096],
     s: Settings,
     w: Wave,
@@ -408,8 +405,8 @@ pub fn pass(
     pending: &mut [f32],
     rest: &mut [f32],
 ) -> Passed
-    requires { ⌜ BitsHeld (now bits) (w .head) (w .waiting) × Rising (s .rate) r × (8000 < s .rate) × (length (now rest) ≤ 1024) × (length (now pending) ≡ 64) ⌝ }
-    ensures { λ p. ⌜ PassesInto (modulatorBy (now (bits .entry)) s w r) (length (now (rest .entry))) (now (bits .entry)) (now (rest .exit)) (p .count) (now (pending .exit)) (p .upto) (p .wave) (p .resampler) ⌝ }
+    requires { ⌜ WaveHeld (now bits) w × Rising (s .rate) r × (8000 < s .rate) × (length (now rest) ≤ 1024) × (length (now pending) ≡ 64) ⌝ }
+    ensures { λ p. ⌜ PassesOver (now (bits .entry)) s w r (length (now (rest .entry))) (now (rest .exit)) (now (pending .exit)) p ⌝ }
 {
     if rest.len() <= 64 {
         return pass_short(bits, s, w, r, pending, rest);
@@ -472,7 +469,7 @@ fn equal_long(
 }
 
 // One pass over the unwritten rest of the caller's slice.
-pub fn equal_pass(
+pub(crate) fn equal_pass(
     bits: &[bool; 4096],
     t: TonePair,
     w: Wave,

@@ -9,7 +9,7 @@ use lib.Ieee.{Float, nan, inf, fin, Format, binary32, binary64, nanBits, isNan, 
 use lib.Ieee.Fits.{neg-fits}
 use lib.Ieee.Bits.{toBits-lt, nanBits-above}
 use Rattle.numeric.specs.F64.{bits}
-use Rattle.numeric.specs.Whole.{noMinus}
+use Rattle.numeric.proofs.Whole.{noMinus}
 
 -- up to the infinity's pattern
 pub number-bits : (f : Format) (n : ℕ) → n ≤ ones f * hid f → T (not (nanBits f n))

@@ -2,14 +2,14 @@
 -- has it (`lib.Ieee`). A float is `nan` (a NaN), `inf s` or `fin s m e`, which is m × 2 ^ e; s says whether it has a minus sign, and 2 ^ e
 -- is the fraction up e / down e. Assumes nothing.
 use Prim.Native.Nat.{ℕ}
-use mathlib.Core.Bool.{Bool, true, false}
+use mathlib.Core.Bool.{Bool, false}
 use lib.IntN.{pos}
 use lib.Ieee.{Float, nan, inf, fin, binary64, ofBits, toBits, ofInt, add, sub, mul, div, lt, le, eq}
+use Rattle.numeric.specs.If.{if_then_else_}
 
 infixl 65 _⊕_ _⊖_
 infixl 70 _⊗_ _⊘_
 infix 50 _<ᶠ_ _≤ᶠ_ _=ᶠ_
-infix 10 if_then_else_
 -- a + b
 abbrev pub _⊕_ : Float → Float → Float
 a ⊕ b = add binary64 a b
@@ -47,10 +47,6 @@ bits x = toBits binary64 x
 -- the whole number n as an f64
 abbrev pub whole : ℕ → Float
 whole n = ofInt binary64 (pos n)
-
-abbrev pub if_then_else_ : {A : Type 0} → Bool → A → A → A
-if true then a else b = a
-if false then a else b = b
 
 -- ---- numbers that several definitions name
 -- 0.0

@@ -3,7 +3,7 @@
 use Prim.Native.Nat.{ℕ, _+_, _-_, _/_, _%_, _^_, min}
 use lib.Dec.{leb}
 use lib.Ieee.Nearest.{closest}
-use Rattle.numeric.specs.F64.{if_then_else_}
+use Rattle.numeric.specs.If.{if_then_else_}
 
 -- the upper digits of the pattern, to the nearest, at a tie to the even. From 2 ^ -126 on the exponent's fields differ by 896 and 29
 -- digits go; below that the leading digit is written out, and more digits go the smaller the number is; below 2 ^ -151 all go.

@@ -1,8 +1,8 @@
 -- Document 01's root, in the place of the library's `hypot`. Assumes nothing.
 use Prim.Native.Nat.{ℕ, zero, suc, _+_, _/_}
-use mathlib.Core.Path.{_≡_, refl}
-use lib.Ieee.{Float, nan, ofBits, toBits, add, mul, div}
-use Rattle.numeric.specs.F64.{_⊕_, _⊗_, _⊘_, _=ᶠ_, if_then_else_, f64, bits, zero64, half64}
+use lib.Ieee.{Float}
+use Rattle.numeric.specs.F64.{_⊕_, _⊗_, _⊘_, _=ᶠ_, f64, bits, zero64, half64}
+use Rattle.numeric.specs.If.{if_then_else_}
 
 -- "v = a × a + b × b"
 abbrev pub squares : Float → Float → Float
@@ -24,8 +24,3 @@ rootOfSum v = if v =ᶠ zero64 then zero64 else improved 5 v (guess v)
 -- "Root of a, b (for `hypot`)"
 unfoldable pub rootOf : Float → Float → Float
 rootOf a b = rootOfSum (squares a b)
-
--- The bits of a NaN are of no matter: the first step gives a NaN again.
-pub improved-nan : improved 5 nan (guess nan) ≡ nan
-unfolding improved ofBits toBits div add mul
-improved-nan = refl

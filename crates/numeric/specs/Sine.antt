@@ -1,23 +1,13 @@
 -- Document 01's sine and cosine, in the place of the library's. Assumes nothing.
 use Prim.Native.Nat.{ℕ, zero, suc, _-_, _<_}
-use mathlib.Core.Path.{_≡_, refl, ap}
-use mathlib.Core.Bool.{true, false}
 use mathlib.Core.List.{List, [], _∷_}
-use native.Mathlib.Omega.{arith}
 use lib.Ieee.{Float, neg}
-use Rattle.numeric.specs.F64.{_⊕_, _⊖_, _⊗_, _⊘_, _<ᶠ_, _≤ᶠ_, if_then_else_, f64, whole, zero64, one64, two64, tau, pi}
+use Rattle.numeric.specs.F64.{_⊕_, _⊖_, _⊗_, _⊘_, _<ᶠ_, _≤ᶠ_, f64, whole, zero64, one64, tau, pi}
+use Rattle.numeric.specs.If.{if_then_else_}
 
 -- PI/2, and TAU/4: the same f64
 abbrev pub quarter : Float
 quarter = f64 0x3FF9_21FB_5444_2D18
-
-pub quarter-pi : pi ⊘ two64 ≡ quarter
-unfolding lib.Ieee.ofBits lib.Ieee.div
-quarter-pi = refl
-
-pub quarter-tau : tau ⊘ f64 0x4010_0000_0000_0000 ≡ quarter
-unfolding lib.Ieee.ofBits lib.Ieee.div
-quarter-tau = refl
 
 -- "subtract TAU while x ≥ TAU, at most 64 times, and 0.0 if still ≥ TAU": here at most n times
 unfoldable pub reduced : ℕ → Float → Float
@@ -52,21 +42,3 @@ sineOf x = if x <ᶠ zero64 then neg (halfTurn (reduced 64 (neg x))) else halfTu
 -- "Cosine x = sine(x + TAU/4)"
 unfoldable pub cosineOf : Float → Float
 cosineOf x = sineOf (x ⊕ quarter)
-
--- ---- `reduced`, turn by turn
-pub reduced-stop : (n : ℕ) (x : Float) → tau ≤ᶠ x ≡ false → reduced n x ≡ x
-unfolding reduced
-reduced-stop zero x h = rw h
-reduced-stop (suc n) x h = rw h
-
-pub reduced-end : (x : Float) → tau ≤ᶠ x ≡ true → reduced 0 x ≡ zero64
-unfolding reduced
-reduced-end x h = rw h
-
-pub reduced-more : (n : ℕ) (x : Float) → 0 < n → tau ≤ᶠ x ≡ true → reduced n x ≡ reduced (n - 1) (x ⊖ tau)
-unfolding reduced
-reduced-more zero x p h = absurd (omega arith)
-reduced-more (suc n) x p h = rw h (ap (λ (k : ℕ). reduced k (x ⊖ tau)) (back n))
-  where
-    back : (n : ℕ) → n ≡ suc n - 1
-    back n = omega arith

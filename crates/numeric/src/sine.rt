@@ -27,7 +27,7 @@ fn reduce(x: f64) -> f64
 }
 
 // The x of the first quarter that has the same sine.
-pub fn fold(x: f64) -> f64
+pub(crate) fn fold(x: f64) -> f64
     ensures { λ r. ⌜ r ≡ folded x ⌝ }
 {
     if x > QUARTER { PI - x } else { x }

@@ -19,26 +19,26 @@ pub struct Four {
     pub fourth: f64,
 }
 
-pub fn wrap(x: f64) -> f64
+fn wrap(x: f64) -> f64
     ensures { λ r. ⌜ r ≡ wrapped x ⌝ }
 {
     if x >= TAU { x - TAU } else { x }
 }
 
-pub fn lower(x: f64) -> f64
+fn lower(x: f64) -> f64
     ensures { λ r. ⌜ r ≡ lowered x ⌝ }
 {
     if x >= PI { x - PI } else { x }
 }
 
-pub fn sign(x: f64, v: f64) -> f64
+fn sign(x: f64, v: f64) -> f64
     ensures { λ r. ⌜ r ≡ signed x v ⌝ }
 {
     if x >= PI { -v } else { v }
 }
 
 // Whether one turn less is not all that x needs to be within one turn, where y is x wrapped.
-pub fn is_beyond(x: f64, y: f64) -> bool
+fn is_beyond(x: f64, y: f64) -> bool
     ensures { λ r. ⌜ r ≡ beyond x y ⌝ }
 {
     if x < 0.0 {
@@ -48,7 +48,7 @@ pub fn is_beyond(x: f64, y: f64) -> bool
 }
 
 // The series of x, and that of y.
-pub fn series_pair(x: f64, y: f64) -> Pair
+fn series_pair(x: f64, y: f64) -> Pair
     ensures { λ r. ⌜ (r .first ≡ series x) × (r .second ≡ series y) ⌝ }
 {
     let t = x * x;

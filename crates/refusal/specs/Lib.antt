@@ -1,2 +1,2 @@
--- Refusals and rates.
+-- The definitions that the contracts of `refusal` and of the crates above it cite.
 pub mod Refusals

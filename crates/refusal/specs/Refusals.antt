@@ -1,8 +1,6 @@
 -- Refusals: what a refused call gives, the numbers, and the check of rates. Assumes nothing.
 use Prim.Native.Nat.{ℕ, zero, suc}
-use mathlib.Core.Path.{_≡_, refl, sym}
-use mathlib.Core.Bool.{Bool, true, false, not, _&&_, _||_, true≢false}
-use native.Mathlib.Omega.{arith}
+use mathlib.Core.Bool.{Bool, true, false, not, _&&_, _||_}
 use lib.Dec.{ltb, eqb}
 use Rattle.refusal.specs.declared.Refusal.{Refusal}
 use Rattle.refusal.specs.declared.Refusal.the-variants.{Rate, Station, TooManySamples, BadSample, OutputTooShort, Amplitude, TooManyBits, OutOfSamples, BytesWait, BitsWait}
@@ -20,14 +18,6 @@ pub data Reply (A : Type 0) : Type 0 where
 unfoldable pub first : Bool → ℕ → ℕ → ℕ
 first true n rest = n
 first false n rest = rest
-
-pub first-yes : (n rest : ℕ) → first true n rest ≡ n
-unfolding first
-first-yes n rest = refl
-
-pub first-no : (n rest : ℕ) → first false n rest ≡ rest
-unfolding first
-first-no n rest = refl
 
 -- the number of each case
 abbrev pub numberOf : Refusal → ℕ
@@ -64,17 +54,6 @@ countIn (counted.Refused r) = 0
 abbrev pub replyOf : ℕ → Reply Unit
 replyOf zero = given tt
 replyOf (suc k) = refused (suc k)
-
--- an accepted answer stands for no number but 0
-pub accepted-none : (a : Acceptance) (k : ℕ) → acceptanceOf a ≡ replyOf k → isAccepted a ≡ true → k ≡ 0
-accepted-none acceptance.Accepted zero e t = refl
-accepted-none acceptance.Accepted (suc k) e t = let z : _≡_ {A = ℕ} 0 1 = cc in absurd (omega arith)
-accepted-none (acceptance.Refused r) k e t = absurd (true≢false (sym t))
-
--- a count that is given
-pub count-given : (c : Counted) (n : ℕ) → countOf c ≡ given n → countIn c ≡ n
-count-given (counted.Count k) n e = cc
-count-given (counted.Refused r) n e = let z : _≡_ {A = ℕ} 0 1 = cc in absurd (omega arith)
 
 -- "Rates are whole numbers": the rate inside the modem, in samples a second, and the lower limit of refusal 1
 abbrev pub dspRate : ℕ

@@ -1,12 +1,13 @@
 // Standard input, cut into lines.
-use crate::desk::Desk;
-use crate::desk::PLACES;
-use crate::desk::fresh;
-use crate::desk::run;
+use crate::decoder::Decoder;
+use crate::decoder::PLACES;
+use crate::decoder::fresh;
+use crate::decoder::run;
 ghost use Prim.Native.Nat.{_≤_, _<_};
 ghost use mathlib.Core.Path.{_≡_};
 ghost use lib.ListN.{length};
-ghost use Rattle.replay.specs.Desk.{DeskSound};
+ghost use Rattle.replay.specs.Decoder.{DecoderSound};
+ghost use Rattle.replay.specs.Lines.{ScansOn};
 
 // One place more than the longest line has.
 const WIDTH: usize = 321;
@@ -33,7 +34,7 @@ fn keep(line: &mut [u8], n: usize, b: u8) -> usize
 // The input up to the end of a line, or to its own end.
 fn scan(input: &[u8], from: usize, line: &mut [u8], filled: usize) -> Scanned
     requires { ⌜ (from < length (now input)) × (filled ≤ length (now line)) ⌝ }
-    ensures { λ r. ⌜ (from < r .at) × (r .at ≤ length (now (input .entry))) × (r .n ≤ length (now (line .entry))) × (length (now (line .exit)) ≡ length (now (line .entry))) ⌝ }
+    ensures { λ r. ⌜ ScansOn from (now (input .entry)) (now (line .entry)) (now (line .exit)) r ⌝ }
 {
     let mut i = from;
     let mut n = filled;
@@ -58,19 +59,19 @@ fn scan(input: &[u8], from: usize, line: &mut [u8], filled: usize) -> Scanned
 
 // The states, and how many characters of the next line stand in the buffer.
 struct Taken {
-    desk: Desk,
+    decoder: Decoder,
     n: usize,
 }
 
 // Runs the line if it ended.
-fn run_ended(desk: Desk, block: &mut [u64], line: &[u8], ended: bool) -> Desk
-    requires { ⌜ DeskSound desk × (length (now block) ≡ 2049) ⌝ }
-    ensures { λ r. ⌜ DeskSound r × (length (now (block .exit)) ≡ 2049) ⌝ }
+fn run_ended(decoder: Decoder, block: &mut [u64], line: &[u8], ended: bool) -> Decoder
+    requires { ⌜ DecoderSound decoder × (length (now block) ≡ 2049) ⌝ }
+    ensures { λ r. ⌜ DecoderSound r × (length (now (block .exit)) ≡ 2049) ⌝ }
 {
     if ended {
-        return run(desk, block, line);
+        return run(decoder, block, line);
     }
-    desk
+    decoder
 }
 
 // How much of a line is run: nothing where it fills the buffer, since it may have been longer.
@@ -88,11 +89,17 @@ fn left(n: usize, ended: bool) -> usize
 }
 
 // Runs each line that ends in this part of the input.
-fn run_part(desk: Desk, block: &mut [u64], line: &mut [u8], filled: usize, input: &[u8]) -> Taken
-    requires { ⌜ DeskSound desk × (length (now block) ≡ 2049) × (length (now line) ≡ 321) × (filled ≤ 321) ⌝ }
-    ensures { λ r. ⌜ DeskSound (r .desk) × (length (now (block .exit)) ≡ 2049) × (length (now (line .exit)) ≡ 321) × (r .n ≤ 321) ⌝ }
+fn run_part(
+    decoder: Decoder,
+    block: &mut [u64],
+    line: &mut [u8],
+    filled: usize,
+    input: &[u8],
+) -> Taken
+    requires { ⌜ DecoderSound decoder × (length (now block) ≡ 2049) × (length (now line) ≡ 321) × (filled ≤ 321) ⌝ }
+    ensures { λ r. ⌜ DecoderSound (r .decoder) × (length (now (block .exit)) ≡ 2049) × (length (now (line .exit)) ≡ 321) × (r .n ≤ 321) ⌝ }
 {
-    let mut d = desk;
+    let mut d = decoder;
     let mut n = filled;
     let mut at = 0;
     while at < input.len() {
@@ -102,7 +109,7 @@ fn run_part(desk: Desk, block: &mut [u64], line: &mut [u8], filled: usize, input
         n = left(s.n, s.ended);
         at = s.at;
     }
-    Taken { desk: d, n }
+    Taken { decoder: d, n }
 }
 
 fn no_patterns() -> [u64; PLACES]
@@ -131,7 +138,7 @@ pub fn run_all() {
             return;
         }
         let t = run_part(d, &mut block, &mut line, n, &input[..got]);
-        d = t.desk;
+        d = t.decoder;
         n = t.n;
         turns -= 1;
     }

@@ -20,7 +20,7 @@
 //
 // A call leaves the block empty. Any other line prints `?` with its number, and nothing is done.
 mod block;
-mod desk;
+mod decoder;
 mod fields;
 mod floats;
 mod lines;

@@ -1,5 +1,5 @@
 // Words, numbers and answers on standard output.
-use demodulation::demod::Event;
+use demodulation::Event;
 use refusal::Acceptance;
 use refusal::Counted;
 

@@ -1,11 +1,11 @@
 // The receiver's calls, and the line that each prints.
 use crate::print;
 use bell103::Role;
-use modem::rx::Rx;
+use modem::Rx;
 ghost use Prim.Native.Nat.{_≤_};
 ghost use mathlib.Core.Path.{_≡_};
 ghost use lib.ListN.{length};
-ghost use Rattle.modem.specs.RxHeld.{RxSound};
+ghost use Rattle.modem.specs.RxRep.{RxSound};
 
 // Role 0 originates.
 pub fn role_of(n: u64) -> Role {

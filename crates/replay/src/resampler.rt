@@ -2,11 +2,11 @@
 use crate::floats::print_patterns;
 use crate::print;
 use refusal::count_in;
-use resampling::resample::Resampler;
+use resampling::Resampler;
 ghost use Prim.Native.Nat.{_≤_};
 ghost use mathlib.Core.Path.{_≡_};
 ghost use lib.ListN.{length};
-ghost use Rattle.resampling.specs.ResampleHeld.{Sound};
+ghost use Rattle.resampling.specs.ResampleRep.{Sound};
 
 fn rates(src: u32, dst: u32) {
     print::number(src as u64);

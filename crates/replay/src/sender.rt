@@ -4,12 +4,12 @@ use crate::floats::single;
 use crate::floats::sum_of_patterns;
 use crate::print;
 use crate::receiver::role_of;
+use modulation::Tx;
 use refusal::Acceptance;
-use sending::tx::Tx;
 ghost use Prim.Native.Nat.{_≤_};
 ghost use mathlib.Core.Path.{_≡_};
 ghost use lib.ListN.{length};
-ghost use Rattle.sending.specs.TxHeld.{TxSound};
+ghost use Rattle.modulation.specs.TxRep.{TxSound};
 
 // A fresh sender; role 0 originates.
 pub fn create(rate: u32, role: u64) -> Tx
@@ -34,7 +34,7 @@ fn wait(tx: Tx) {
 }
 
 // The answer, and whether bits wait afterwards.
-fn told(answer: Acceptance, after: Tx) {
+fn answered(answer: Acceptance, after: Tx) {
     print::text(b": ");
     print::acceptance(answer);
     wait(after);
@@ -50,7 +50,7 @@ pub fn write(tx: Tx, bytes: &[u8]) -> Tx
     let after = written.state;
     print::text(b"send ");
     print::number(bytes.len() as u64);
-    told(answer, after);
+    answered(answer, after);
     print::end_line();
     after
 }
@@ -65,7 +65,7 @@ pub fn idle_mark(tx: Tx, n: u64) -> Tx
     let after = written.state;
     print::text(b"idle mark ");
     print::number(n);
-    told(answer, after);
+    answered(answer, after);
     print::end_line();
     after
 }
@@ -80,7 +80,7 @@ pub fn set_amplitude(tx: Tx, pattern: u64) -> Tx
     let after = set.state;
     print::text(b"amplitude ");
     print::pattern(pattern);
-    told(answer, after);
+    answered(answer, after);
     print::end_line();
     after
 }
@@ -125,7 +125,7 @@ fn read_into(tx: Tx, samples: &mut [f32], each: bool) -> Tx
     let after = done.state;
     print::text(b"read ");
     print::number(samples.len() as u64);
-    told(answer, after);
+    answered(answer, after);
     given(answer, samples, each);
     after
 }

@@ -11,14 +11,14 @@ use lib.Seq.{length-take-le, sets-eq}
 use lib.Ieee.{Float}
 use Rattle.numeric.specs.F64.{zero64}
 use Rattle.refusal.specs.Refusals.{given, refused, first, rateRefused, ratesRefused}
-use Rattle.feeding.specs.Flow.{Filter, Flow, Ran, flow, fed, zeroWindow}
-use Rattle.resampling.specs.Resample.{State, state, tapsOf, filterOf, fresh, maxOutputLen, tooMany, outcome, refusalOf, ranOver, processed}
-use Rattle.filtering.specs.FilterHeld.{historyOf}
-use Rattle.feeding.specs.FlowHeld.{filterIn, Run, run, into, fedInto}
-use Rattle.resampling.specs.ResampleHeld.{InRange, Sound}
+use Rattle.resampling.specs.Flow.{Filter, Flow, Ran, flow, fed, zeroWindow}
+use Rattle.resampling.specs.Resample.{State, state, tapsOf, filterOf, fresh, maxOutputLen, tooMany, Outcome, outcome, refusalOf, ranOver, ranInto, processed}
+use Rattle.resampling.specs.FilterRep.{historyOf}
+use Rattle.resampling.specs.FlowRep.{filterIn, Run, run, into, fedInto}
+use Rattle.resampling.specs.ResampleRep.{InRange, Sound}
 use Rattle.resampling.specs.declared.resample.Resampler.{Resampler}
-use Rattle.filtering.proofs.Ring.{history-same}
-use Rattle.feeding.specs.FlowLaws.{fed-length}
+use Rattle.resampling.proofs.Ring.{history-same}
+use Rattle.resampling.proofs.FlowLaws.{fed-length}
 
 -- ---- rates that are not refused are in range
 neither : (a b : Bool) → a || b ≡ false → (a ≡ false) × (b ≡ false)
@@ -67,6 +67,11 @@ module _ (s : State) (xs o : List Float) where
   unfolding processed refusalOf tooMany first
   too-long h = rw (lt-ltb _ _ h)
 
+  pub ran-into : (f : Filter) (t : Run) → f ≡ filterOf (s .src) (s .dst) → eqb (s .src) (s .dst) ≡ false → t ≡ fedInto f xs (run (s .flow) o 0)
+      → outcome (given (t .at)) (state (s .src) (s .dst) (t .flow)) (t .out) ≡ ranInto s xs o
+  unfolding ranOver
+  ran-into f t ef e et = rw (e, et, ef, whole-run (filterOf (s .src) (s .dst)) xs (s .flow) o)
+
   module _ (short : length xs ≤ 2048) (b : ℕ) (is : b ≡ maxOutputLen (s .src) (s .dst) (length xs)) where
     pub no-room : length o < b → outcome (refused 5) s o ≡ processed s xs o
     unfolding processed refusalOf tooMany first
@@ -77,7 +82,6 @@ module _ (s : State) (xs o : List Float) where
       unfolding processed refusalOf tooMany first ranOver
       copied o′ e eo = rw (le-ltb _ _ short, ← is, le-ltb _ _ room, e, eo)
 
-      pub went : (t : Run) → eqb (s .src) (s .dst) ≡ false → t ≡ fedInto (filterOf (s .src) (s .dst)) xs (run (s .flow) o 0)
-          → outcome (given (t .at)) (state (s .src) (s .dst) (t .flow)) (t .out) ≡ processed s xs o
-      unfolding processed refusalOf tooMany first ranOver
-      went t e et = rw (le-ltb _ _ short, ← is, le-ltb _ _ room, e, et, whole-run (filterOf (s .src) (s .dst)) xs (s .flow) o)
+      pub went : (p : Outcome) → p ≡ ranInto s xs o → p ≡ processed s xs o
+      unfolding processed refusalOf tooMany first
+      went p e = rw (le-ltb _ _ short, ← is, le-ltb _ _ room) e

@@ -1,2 +1,10 @@
--- Laws that more than one proof of `resampling` cites.
+-- Laws that the proofs of the functions, and other crates, cite.
+pub mod Ring
+pub mod FilterLaws
+pub mod Running
+pub mod Rising
 pub mod Answers
+pub mod FlowLaws
+pub mod ResampleLaws
+pub mod Place
+pub mod NumberLaws

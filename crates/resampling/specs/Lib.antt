@@ -1,5 +1,9 @@
--- The definitions that the contracts of `resampling` cite, and the theorems about them.
+-- The definitions that the contracts of `resampling` cite: the filter's design and its sums, a flow of samples, the resampler; `..Rep`: how the code holds them.
+pub mod Design
+pub mod Filter
+pub mod FilterRep
+pub mod Flow
+pub mod FlowRep
 pub mod Resample
-pub mod ResampleLaws
-pub mod ResampleHeld
-pub mod Place
+pub mod ResampleRep
+pub mod Numbers

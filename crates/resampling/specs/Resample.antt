@@ -1,15 +1,16 @@
--- The resampler (resample.rs) between 8,000 and another rate. What it does with its samples is said in feeding/specs/Flow.antt, and how the
--- code holds its state in specs/ResampleHeld.antt. Assumes nothing.
+-- The resampler (resample.rs) between 8,000 and another rate. What it does with its samples is said in specs/Flow.antt, and how the
+-- code holds its state in specs/ResampleRep.antt. Assumes nothing.
 use Prim.Native.Nat.{ℕ, zero, suc}
 use mathlib.Core.Bool.{Bool}
 use mathlib.Core.List.{List, [], _++_}
 use lib.ListN.{length, drop, replicate}
 use lib.Dec.{ltb, eqb}
 use lib.Ieee.{Float}
-use Rattle.numeric.specs.F64.{_⊘_, if_then_else_, whole, zero64}
+use Rattle.numeric.specs.F64.{_⊘_, whole, zero64}
+use Rattle.numeric.specs.If.{if_then_else_}
 use Rattle.numeric.specs.Counts.{outputLen}
-use Rattle.filtering.specs.Design.{lowpass}
-use Rattle.feeding.specs.Flow.{Filter, Flow, flow, Ran, ran, fed, zeroWindow}
+use Rattle.resampling.specs.Design.{lowpass}
+use Rattle.resampling.specs.Flow.{Filter, Flow, flow, Ran, ran, fed, zeroWindow}
 use Rattle.refusal.specs.Refusals.{Reply, given, refused, first, ratesRefused}
 
 -- ---- what a resampler is made of
@@ -26,6 +27,9 @@ state s d f = record { src = s; dst = d; flow = f }
 -- the filter runs at the faster rate
 unfoldable pub faster : ℕ → ℕ → ℕ
 faster a b = if ltb b a then a else b
+
+abbrev pub equalRates : State → Bool
+equalRates s = eqb (s .src) (s .dst)
 
 -- equal rates have no taps
 unfoldable pub tapsOf : ℕ → ℕ → List Float
@@ -88,10 +92,14 @@ ranOver s room xs = if eqb (s .src) (s .dst) then ran xs (s .flow) else fed (fil
 abbrev pub laid : State → List Float → Ran → Outcome
 laid s out r = outcome (given (length (r .out))) (state (s .src) (s .dst) (r .flow)) (r .out ++ drop (length (r .out)) out)
 
+-- what an input that is not refused makes of state and output
+abbrev pub ranInto : State → List Float → List Float → Outcome
+ranInto s xs out = laid s out (ranOver s (length out) xs)
+
 -- "A refused call returns its number alone and leaves state and buffers untouched"
 abbrev pub unlessRefused : ℕ → State → List Float → Outcome → Outcome
 unlessRefused zero s out accepted = accepted
 unlessRefused (suc k) s out accepted = outcome (refused (suc k)) s out
 
 unfoldable pub processed : State → List Float → List Float → Outcome
-processed s xs out = unlessRefused (refusalOf s (length xs) (length out)) s out (laid s out (ranOver s (length out) xs))
+processed s xs out = unlessRefused (refusalOf s (length xs) (length out)) s out (ranInto s xs out)

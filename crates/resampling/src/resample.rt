@@ -1,34 +1,39 @@
 // Rate conversion between the device and the 8 kHz internal rate: a stateful, band-limited resampler.
 // The filter's history is a ring here; the definitions read it as a list.
-use feeding::feed::copy;
-use feeding::feed::feed;
-use feeding::sample::Moving;
-use filtering::design::MAX_TAPS;
-use filtering::design::design_lowpass;
-use filtering::design::tap_count;
-use filtering::design::zeros;
+use crate::design::MAX_TAPS;
+use crate::design::design_lowpass;
+use crate::design::tap_count;
+use crate::design::zeros;
+use crate::feed::copy;
+use crate::feed::feed;
+use crate::numbers::cleared;
+use crate::numbers::newest_first;
+use crate::sample::Moving;
 use numeric::counts::nearest;
 use refusal::Acceptance;
 use refusal::Counted;
 use refusal::Refusal;
 use refusal::rates_ok;
 ghost use mathlib.Core.Path.{_≡_};
+ghost use mathlib.Core.Bool.{false};
 ghost use Prim.Native.Nat.{_≤_};
 ghost use lib.Dec.{eqb};
+ghost use lib.ListN.{length};
 ghost use Rattle.refusal.specs.Refusals.{acceptanceOf, countOf};
-ghost use Rattle.resampling.specs.Resample.{faster, fresh, newOf, made, resetOf, maxOutputLen, lenOf, outcome, processed};
-ghost use Rattle.resampling.specs.ResampleHeld.{TapsFor, InRange, stateOf, Sound};
+ghost use Rattle.resampling.specs.Resample.{equalRates, faster, fresh, newOf, made, resetOf, maxOutputLen, lenOf, processed, ranInto, tapsOf};
+ghost use Rattle.resampling.specs.ResampleRep.{TapsFor, InRange, stateOf, outcomeOf, Sound};
+ghost use Rattle.resampling.specs.Numbers.{tapNumbers, historyNumbers, windowNumbers};
 
 pub struct Resampler {
-    pub src_rate: u32,
-    pub dst_rate: u32,
-    pub identity: bool,
-    pub decimating: bool,
-    pub step: f64,
-    pub taps: [f64; MAX_TAPS],
-    pub n_taps: usize,
-    pub fir_hist: [f64; MAX_TAPS],
-    pub moving: Moving,
+    src_rate: u32,
+    dst_rate: u32,
+    identity: bool,
+    decimating: bool,
+    step: f64,
+    taps: [f64; MAX_TAPS],
+    n_taps: usize,
+    fir_hist: [f64; MAX_TAPS],
+    moving: Moving,
 }
 
 // What `new` answers, and the state; refused, it gives the one at equal rates of 8,000.
@@ -161,7 +166,7 @@ impl Resampler {
     // Resamples the input into the front of the output, and says how many samples that are.
     pub fn process(self, input: &[f64], output: &mut [f64]) -> Processed
         requires { ⌜ Sound self ⌝ }
-        ensures { λ r. ⌜ outcome (countOf (r .answer)) (stateOf (r .state)) (now (output .exit)) ≡ processed (stateOf self) (now (input .entry)) (now (output .entry)) ⌝ }
+        ensures { λ r. ⌜ outcomeOf r (now (output .exit)) ≡ processed (stateOf self) (now (input .entry)) (now (output .entry)) ⌝ }
         ensures { λ r. ⌜ Sound (r .state) ⌝ }
     {
         let count = input.len();
@@ -185,6 +190,15 @@ impl Resampler {
                 state: self,
             };
         }
+        self.run(input, output)
+    }
+
+    // The same between rates that differ, where no check refused it.
+    fn run(self, input: &[f64], output: &mut [f64]) -> Processed
+        requires { ⌜ Sound self × (self .identity ≡ false) ⌝ }
+        ensures { λ r. ⌜ outcomeOf r (now (output .exit)) ≡ ranInto (stateOf self) (now (input .entry)) (now (output .entry)) ⌝ }
+        ensures { λ r. ⌜ Sound (r .state) ⌝ }
+    {
         let taps = self.taps;
         let mut hist = self.fir_hist;
         let m = self.moving;
@@ -214,5 +228,51 @@ impl Resampler {
             answer: Counted::Count(d.at),
             state,
         }
+    }
+
+    // Whether the rates are equal, so that samples are copied.
+    pub fn is_identity(self) -> bool
+        requires { ⌜ Sound self ⌝ }
+        ensures { λ r. ⌜ r ≡ equalRates (stateOf self) ⌝ }
+    {
+        self.identity
+    }
+
+    // The number of taps.
+    pub fn tap_count(self) -> usize
+        requires { ⌜ Sound self ⌝ }
+        ensures { λ r. ⌜ r ≡ length (tapsOf (stateOf self .src) (stateOf self .dst)) ⌝ }
+    {
+        self.n_taps
+    }
+
+    // The taps, one after the other.
+    pub fn tap_numbers(self) -> [f64; MAX_TAPS]
+        requires { ⌜ Sound self ⌝ }
+        ensures { λ r. ⌜ r ≡ tapNumbers (stateOf self) ⌝ }
+    {
+        let taps = self.taps;
+        cleared(taps, self.n_taps)
+    }
+
+    // The filter's history, newest first.
+    pub fn history_numbers(self) -> [f64; MAX_TAPS]
+        requires { ⌜ Sound self ⌝ }
+        ensures { λ r. ⌜ r ≡ historyNumbers (stateOf self) ⌝ }
+    {
+        let ring = self.fir_hist;
+        let m = self.moving;
+        let newest = newest_first(ring, self.n_taps, m.fir_pos);
+        cleared(newest, self.n_taps)
+    }
+
+    // The window, the place of the next output, the number of samples in the window so far, and the step.
+    pub fn window_numbers(self) -> [f64; 7]
+        requires { ⌜ Sound self ⌝ }
+        ensures { λ r. ⌜ r ≡ windowNumbers (stateOf self) ⌝ }
+    {
+        let m = self.moving;
+        let w = m.herm_hist;
+        [w[0], w[1], w[2], w[3], m.frac_pos, m.n_pushed, self.step]
     }
 }

@@ -1,4 +1,4 @@
 // A text on standard input, sent as a call: a WAV recording on standard output.
 fn main() {
-    sendtext::run();
+    send_app::run();
 }

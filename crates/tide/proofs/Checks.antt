@@ -1,18 +1,19 @@
 -- Which number a frame and a line get, by the checks that applied. Assumes nothing.
-use Prim.Native.Nat.{ℕ, suc, _-_, _%_, _≤_, _<_}
-use mathlib.Core.Path.{_≡_, refl}
+use Prim.Native.Nat.{ℕ, zero, suc, _%_, _≤_, _<_}
+use mathlib.Core.Path.{_≡_, refl, ap}
 use mathlib.Core.List.{List}
 use mathlib.Core.Bool.{Bool, true, false, not}
 use lib.Dec.{eqb}
 use lib.ListN.{length, getD}
 use native.Mathlib.Omega.{arith}
 use borrow.Author.Tests.{ltb-false, lt-ltb, le-ltb, eq-eqb, ne-eqb}
-use lib.IntN.{ℤ}
+use lib.IntN.{ℤ, pos, negsuc, _-ℤ_}
+use native.Mathlib.Nat.{zero-add}
 use Rattle.tide.specs.Judge.{Shown, settle, ofFrame, ofFields, ofLine}
 use Rattle.refusal.specs.Refusals.{first}
-use Rattle.tide.specs.Hex.{unhex, allHex}
-use Rattle.tide.specs.Frame.{total, stationOf, stampOf, ageOf, levelOf, misfit}
-use Rattle.tide.specs.JudgeLaws.{or-false, not-false}
+use Rattle.hexadecimal.specs.Hex.{unhex, allHex, total}
+use Rattle.tide.specs.Frame.{stationOf, stampOf, ageOf, levelOf, misfit}
+use Rattle.tide.proofs.JudgeLaws.{or-false, not-false}
 
 module _ (mine : ℕ) (f : List ℕ) where
   pub is-14 : (getD f 2 0 ≡ length f → ⊥) → 14 ≡ ofFrame mine f
@@ -45,14 +46,13 @@ first-zero true n r e = absurd (omega arith)
 first-zero false n r e = (refl, e)
 
 pub record GoodLine (l : List ℕ) : Type 0 where
-  pub long : 26 ≤ length l
   pub digits : allHex l ≡ true
   pub old : ageOf (unhex l) ≤ stampOf (unhex l)
 
 pub good-line : (mine : ℕ) (l : List ℕ) (m : Bool) → ofLine mine l m ≡ 0 → GoodLine l
 unfolding ofLine ofFrame ofFields
 good-line mine l m e =
-    let a = first-zero m 10 _ e in
+    let a = first-zero _ 10 _ e in
     let b = first-zero _ 11 _ (a .1) in
     let c = first-zero _ 12 _ (b .1) in
     let d = first-zero _ 13 _ (c .1) in
@@ -62,7 +62,6 @@ good-line mine l m e =
     let i = first-zero _ 17 _ (h .1) in
     let j = first-zero _ 18 _ (i .1) in
     record {
-      long = ltb-false (length l) 26 (or-false _ _ (b .0) .0);
       digits = not-false (allHex l) (c .0);
       old = ltb-false (stampOf (unhex l)) (ageOf (unhex l)) (or-false (eqb (ageOf (unhex l)) 255) _ (j .0) .1);
     }
@@ -71,3 +70,8 @@ good-line mine l m e =
 pub settle-bad : (n : ℕ) (r : Shown) (w x : ℕ) (v u : ℤ) → (n ≡ 0 → ⊥) → settle n r w v ≡ settle n r x u
 unfolding settle
 settle-bad n r w x v u h = rw (ne-eqb n 0 h) refl
+
+-- ---- the two's complement of a level
+pub minus-one : (k : ℕ) → negsuc 0 -ℤ pos k ≡ negsuc k
+minus-one zero = refl
+minus-one (suc n) = ap (λ (m : ℕ). negsuc (suc m)) (zero-add n)

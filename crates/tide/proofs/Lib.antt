@@ -1,3 +1,9 @@
--- Laws that the proofs of the functions cite.
-pub mod Places
+-- Laws of the definitions, in their order, and what the proofs of the functions cite (Checks, Stores, Bytewise).
+pub mod FrameLaws
+pub mod LineExamples
+pub mod JudgeLaws
 pub mod Checks
+pub mod DecoderLaws
+pub mod DecoderRepLaws
+pub mod Stores
+pub mod Bytewise

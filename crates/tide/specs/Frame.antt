@@ -6,13 +6,8 @@ use mathlib.Core.List.{List, [], _∷_, _++_}
 use lib.Dec.{ltb, eqb}
 use lib.IntN.{ℤ, pos, negsuc}
 use lib.ListN.{length, getD}
-use Rattle.numeric.specs.F64.{if_then_else_}
-use Rattle.tide.specs.Hex.{hexLine}
-
--- the sum of a list
-unfoldable pub total : List ℕ → ℕ
-total [] = 0
-total (b ∷ f) = b + total f
+use Rattle.numeric.specs.If.{if_then_else_}
+use Rattle.hexadecimal.specs.Hex.{hexLine, total, Bytes}
 
 -- ---- the fields; "Wide fields come high byte first"
 -- "b0 version V"
@@ -58,11 +53,6 @@ waterOf f = stampOf f - ageOf f
 -- "16 V or F is 0, F > V, or V = 1 with n ≠ 13": a version, a least reader and a number of bytes that don't go together
 abbrev pub misfit : ℕ → ℕ → ℕ → Bool
 misfit v f n = eqb v 0 || eqb f 0 || ltb v f || (eqb v 1 && not (eqb n 13))
-
--- each is a byte
-abbrev pub Bytes : List ℕ → Type 0
-Bytes [] = Unit {0}
-Bytes (b ∷ f) = (b < 256) × Bytes f
 
 -- "Frame of n bytes, n from 13 to 32": a frame that keeps every rule which checks 11 to 16 ask of it, whatever its fields say
 pub record Intact (f : List ℕ) : Type 0 where

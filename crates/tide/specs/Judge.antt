@@ -1,14 +1,16 @@
 -- What a line is judged to be: the numbers 11 to 20 and 34, and the reading that it leaves. Assumes nothing.
-use Prim.Native.Nat.{ℕ, _%_}
-use mathlib.Core.Bool.{Bool, true, not, _||_}
+use Prim.Native.Nat.{ℕ, _%_, _≤_}
+use mathlib.Core.Path.{_≡_}
+use mathlib.Core.Logic.{_⊎_}
+use mathlib.Core.Bool.{Bool, true, false, not, _||_}
 use mathlib.Core.List.{List}
 use lib.Dec.{ltb, eqb}
 use lib.IntN.{ℤ}
 use lib.ListN.{length}
-use Rattle.numeric.specs.F64.{if_then_else_}
+use Rattle.numeric.specs.If.{if_then_else_}
 use Rattle.refusal.specs.Refusals.{first}
-use Rattle.tide.specs.Hex.{allHex, unhex}
-use Rattle.tide.specs.Frame.{total, versionOf, readerOf, saidLength, stationOf, stampOf, ageOf, levelOf, signed, missing, waterOf, misfit}
+use Rattle.hexadecimal.specs.Hex.{allHex, unhex, total, hexLine}
+use Rattle.tide.specs.Frame.{versionOf, readerOf, saidLength, stationOf, stampOf, ageOf, levelOf, signed, missing, waterOf, misfit, Intact}
 
 -- what a line for readers from 1 on is judged on, by a board of station `mine`; 0 where none applies:
 -- "18 station not the board's. 19 A = 255 or A > T. 20 level missing"
@@ -28,14 +30,24 @@ ofFrame mine f =
     (first (ltb 1 (readerOf f)) 17
     (ofFields mine (stationOf f) (stampOf f) (ageOf f) (levelOf f)))))
 
--- of a line, its first 64 characters and whether there were more: "11 over 64 characters. 12 under 26 or odd. 13 not 0-9, A-F", then
--- its frame. 0: "one that passes 11 to 20 is good"
+-- of a line, its characters (the first 64 will do) and whether there were more: "11 over 64 characters. 12 under 26 or odd. 13 not 0-9,
+-- A-F", then its frame. 0: "one that passes 11 to 20 is good"
 unfoldable pub ofLine : ℕ → List ℕ → Bool → ℕ
 ofLine mine l more =
-    first more 11
+    first (more || ltb 64 (length l)) 11
     (first (ltb (length l) 26 || eqb (length l % 2) 1) 12
     (first (not (allHex l)) 13
     (ofFrame mine (unhex l))))
+
+-- "A line that passes 11 to 16": its number is none of these
+abbrev pub Passes : ℕ → Type 0
+Passes n = (n ≡ 0) ⊎ (17 ≤ n)
+
+-- ".. is intact": it has no more than 64 characters, and they say an intact frame
+pub record Passed (l : List ℕ) (more : Bool) : Type 0 where
+  pub whole : more ≡ false
+  pub frame : Intact (unhex l)
+  pub line : hexLine (unhex l) ≡ l
 
 -- "reading (W and level) or none"
 pub data Shown : Type 0 where

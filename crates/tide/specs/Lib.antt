@@ -1,9 +1,6 @@
--- The definitions that the contracts of `tide` cite, and the theorems about them.
-pub mod Hex
+-- The definitions that the contracts of `tide` cite: a frame, a line judged, the decoder; `..Rep`: how the code holds them.
 pub mod Frame
 pub mod Judge
-pub mod Held
-pub mod HexLaws
-pub mod FrameLaws
-pub mod JudgeLaws
-pub mod Examples
+pub mod JudgeRep
+pub mod Decoder
+pub mod DecoderRep

@@ -1,28 +1,25 @@
 // The fields of the frame that a line's digits say.
-use crate::hex::byte;
+use hexadecimal::byte;
 ghost use mathlib.Core.Path.{_≡_};
 ghost use mathlib.Core.Bool.{true};
-ghost use Prim.Native.Nat.{_≤_, _<_};
-ghost use lib.ListN.{length};
-ghost use Rattle.tide.specs.Hex.{allHex, unhex};
+ghost use Prim.Native.Nat.{_<_};
+ghost use Rattle.hexadecimal.specs.Hex.{allHex, unhex};
 ghost use Rattle.tide.specs.Frame.{stationOf, stampOf, ageOf, levelOf, signed};
 
 pub fn station_of(s: &[u8]) -> u32
-    requires { ⌜ (26 ≤ length (now s)) × (allHex (now s) ≡ true) ⌝ }
     ensures { λ r. ⌜ r ≡ stationOf (unhex (now (s .entry))) ⌝ }
 {
     256 * byte(s, 3) + byte(s, 4)
 }
 
 pub fn stamp_of(s: &[u8]) -> u32
-    requires { ⌜ (26 ≤ length (now s)) × (allHex (now s) ≡ true) ⌝ }
+    requires { ⌜ allHex (now s) ≡ true ⌝ }
     ensures { λ r. ⌜ r ≡ stampOf (unhex (now (s .entry))) ⌝ }
 {
     16777216 * byte(s, 5) + 65536 * byte(s, 6) + 256 * byte(s, 7) + byte(s, 8)
 }
 
 pub fn age_of(s: &[u8]) -> u32
-    requires { ⌜ (26 ≤ length (now s)) × (allHex (now s) ≡ true) ⌝ }
     ensures { λ r. ⌜ r ≡ ageOf (unhex (now (s .entry))) ⌝ }
 {
     byte(s, 9)
@@ -30,7 +27,7 @@ pub fn age_of(s: &[u8]) -> u32
 
 // The level's sixteen bits.
 pub fn level_bits(s: &[u8]) -> u32
-    requires { ⌜ (26 ≤ length (now s)) × (allHex (now s) ≡ true) ⌝ }
+    requires { ⌜ allHex (now s) ≡ true ⌝ }
     ensures { λ r. ⌜ (r ≡ levelOf (unhex (now (s .entry)))) × (r < 65536) ⌝ }
 {
     256 * byte(s, 10) + byte(s, 11)

@@ -4,17 +4,15 @@ use crate::frame::level_bits;
 use crate::frame::level_of;
 use crate::frame::stamp_of;
 use crate::frame::station_of;
-use crate::hex::all_digits;
-use crate::hex::byte;
-use crate::hex::sum;
+use hexadecimal::all_digits;
+use hexadecimal::byte;
+use hexadecimal::sum;
 ghost use mathlib.Core.Path.{_≡_};
 ghost use mathlib.Core.Bool.{true};
-ghost use Prim.Native.Nat.{_≤_};
-ghost use lib.ListN.{length};
-ghost use Rattle.tide.specs.Hex.{allHex, unhex};
+ghost use Rattle.hexadecimal.specs.Hex.{allHex, unhex};
 ghost use Rattle.tide.specs.Frame as frame;
 ghost use Rattle.tide.specs.Judge.{ofFields, ofFrame, ofLine, settle, judge};
-ghost use Rattle.tide.specs.Held.{shownOf, verdictOf};
+ghost use Rattle.tide.specs.JudgeRep.{shownOf, verdictOf};
 
 // What a board shows: nothing yet, or the water minute and the level, in centimetres.
 pub enum Reading {
@@ -68,7 +66,7 @@ fn fields_number(mine: u32, station: u32, stamp: u32, age: u32, level: u32) -> u
 
 // The first of 14 to 20 that applies to a line of digits, else 0.
 fn frame_number(s: &[u8], mine: u32) -> u8
-    requires { ⌜ (26 ≤ length (now s)) × (length (now s) ≤ 64) × (allHex (now s) ≡ true) ⌝ }
+    requires { ⌜ allHex (now s) ≡ true ⌝ }
     ensures { λ r. ⌜ r ≡ ofFrame mine (unhex (now (s .entry))) ⌝ }
 {
     let n = s.len() / 2;
@@ -76,7 +74,7 @@ fn frame_number(s: &[u8], mine: u32) -> u8
     if said != n {
         return 14;
     }
-    let t = sum(s) % 256;
+    let t = sum(s);
     if t != 0 {
         return 15;
     }
@@ -93,13 +91,15 @@ fn frame_number(s: &[u8], mine: u32) -> u8
 
 // The first of 11 to 20 that applies to a line, else 0.
 fn line_number(s: &[u8], more: bool, mine: u32) -> u8
-    requires { ⌜ length (now s) ≤ 64 ⌝ }
     ensures { λ r. ⌜ r ≡ ofLine mine (now (s .entry)) more ⌝ }
 {
     if more {
         return 11;
     }
     let n = s.len();
+    if 64 < n {
+        return 11;
+    }
     if n < 26 {
         return 12;
     }
@@ -152,7 +152,6 @@ fn settled(n: u8, r: Reading, water: u32, level: i16) -> Judged
 
 // The judgement of a line, on what stands.
 pub fn judge_line(s: &[u8], more: bool, mine: u32, r: Reading) -> Judged
-    requires { ⌜ length (now s) ≤ 64 ⌝ }
     ensures { λ j. ⌜ verdictOf j ≡ judge mine (shownOf r) (now (s .entry)) more ⌝ }
 {
     let n = line_number(s, more, mine);

@@ -1,4 +1,4 @@
 // Document 01's program: the tide lines on standard input, judged for station 7.
 fn main() {
-    tidetext::run(7);
+    console::run(7);
 }

@@ -1,4 +1,4 @@
 // The same on lines of every answer and at every limit.
 fn main() {
-    tidetext::run(7);
+    console::run(7);
 }

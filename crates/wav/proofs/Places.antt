@@ -8,9 +8,9 @@ use native.Mathlib.Omega.{arith}
 use denote.Enum.Declared.{tagOf}
 use types.Run.{OneOf, miss}
 use lib.Dec.{eqb}
-use Rattle.numeric.specs.F64.{if_then_else_}
+use Rattle.numeric.specs.If.{if_then_else_}
 use Rattle.wav.specs.Wav.{done, finishAt}
-use Rattle.wavparts.specs.Words.{widthOf}
+use Rattle.wav.specs.Words.{widthOf}
 use Rattle.wav.specs.declared.wav.Wav.{Wav}
 use Rattle.wav.specs.declared.wav.Step.{Step}
 use Rattle.wav.specs.declared.wav.Fault.the-variants as fault

@@ -5,10 +5,10 @@ use mathlib.Core.Bool.{false}
 use mathlib.Core.List.{List, [], _∷_, _++_}
 use lib.Dec.{eqb}
 use lib.ListN.{length}
-use Rattle.numeric.specs.F64.{if_then_else_}
+use Rattle.numeric.specs.If.{if_then_else_}
 use lib.Ieee.{Float}
 use Rattle.refusal.specs.Refusals.{rateRefused}
-use Rattle.wavparts.specs.Sample.{pcmOf, floatOf}
+use Rattle.wav.specs.Sample.{pcmOf, floatOf}
 use Rattle.wav.specs.Wav.{fmt, data', addByte, finishOf}
 use Rattle.wav.specs.declared.wav.Wav.{Wav}
 use Rattle.wav.specs.declared.wav.Out.{Out}
@@ -117,15 +117,15 @@ pub record Proper (r : Recording) : Type 0 where
   pub frames : Frames (r .kind) (r .channels) (r .frames)
 
 -- ---- what a reader tells
-abbrev pub told : Out → List Out
-told out.Going = []
-told (out.Start rate) = out.Start rate ∷ []
-told (out.Sample x) = out.Sample x ∷ []
-told (out.Bad f) = out.Bad f ∷ []
+abbrev pub emits : Out → List Out
+emits out.Going = []
+emits (out.Start rate) = out.Start rate ∷ []
+emits (out.Sample x) = out.Sample x ∷ []
+emits (out.Bad f) = out.Bad f ∷ []
 
 unfoldable pub outs : Wav → List ℕ → List Out
 outs w [] = []
-outs w (b ∷ bs) = told (addByte w b .out) ++ outs (addByte w b .state) bs
+outs w (b ∷ bs) = emits (addByte w b .out) ++ outs (addByte w b .state) bs
 
 unfoldable pub after : Wav → List ℕ → Wav
 after w [] = w
@@ -138,5 +138,5 @@ samples k (f ∷ fs) = out.Sample (valueOf k (f .first)) ∷ samples k fs
 
 -- all that a reader tells of these bytes, up to the end of the file, is this, and the recording is whole
 pub record Tells (w : Wav) (bs : List ℕ) (os : List Out) : Type 0 where
-  pub told : outs w bs ≡ os
+  pub emits : outs w bs ≡ os
   pub whole : finishOf (after w bs) ≡ end.Whole

@@ -4,10 +4,10 @@
 use Prim.Native.Nat.{ℕ, _+_, _-_, _*_, _/_, _%_}
 use mathlib.Core.Bool.{Bool, true, false}
 use lib.Dec.{ltb, eqb}
-use Rattle.numeric.specs.F64.{if_then_else_}
+use Rattle.numeric.specs.If.{if_then_else_}
 use Rattle.refusal.specs.Refusals.{rateRefused}
-use Rattle.wavparts.specs.Sample.{sampleOf}
-use Rattle.wavparts.specs.Words.{shifted, widthOf, isEndless}
+use Rattle.wav.specs.Sample.{sampleOf}
+use Rattle.wav.specs.Words.{shifted, widthOf, isEndless}
 use Rattle.wav.specs.declared.wav.Wav.{Wav}
 use Rattle.wav.specs.declared.wav.Step.{Step}
 use Rattle.wav.specs.declared.wav.Fault.{Fault}

@@ -1,11 +1,12 @@
 // The reader. A recording is a row of chunks, each with a name and a size; its header is read in words of four bytes, low byte first.
+use crate::sample::sample;
+use crate::words::endless;
+use crate::words::shifted_in;
+use crate::words::width_of;
 use refusal::rate_ok;
-use wavparts::sample::sample;
-use wavparts::words::endless;
-use wavparts::words::shifted_in;
-use wavparts::words::width_of;
 ghost use mathlib.Core.Path.{_≡_};
-ghost use Rattle.wav.specs.Wav.{freshWav, rawWav, moved, going, bad, fixed, skip, padded, named, formatSize, formatWord, rateWord, shapeWord, settle, dataSize, start, sampled, overOthers, nextFrame, frameOver, done, addByte, finishFrame, finishOf};
+ghost use Rattle.wav.specs.Wav.{freshWav, rawWav, moved, going, bad, fixed, skip, padded, named, formatSize, formatWord, rateWord, shapeWord};
+ghost use Rattle.wav.specs.Wav.{settle, dataSize, start, sampled, overOthers, nextFrame, frameOver, done, addByte, finishFrame, finishOf};
 
 // Why a recording is not read, or not to its end.
 pub enum Fault {
@@ -59,23 +60,24 @@ pub enum Place {
     Bad(Fault),
 }
 
+// A reader: where it stands in the recording, and what it has read of the format.
 pub struct Wav {
-    pub place: Place,
+    place: Place,
     // How many bytes of it are to come.
-    pub left: u64,
+    left: u64,
     // Its last four bytes, the latest on top.
-    pub word: u32,
+    word: u32,
     // How many bytes of the format chunk stand behind the words that are read.
-    pub rest: u64,
+    rest: u64,
     // The format chunk's words: encoding and channels, rate, bytes of a frame and bits of a sample.
-    pub format: u32,
-    pub rate: u32,
-    pub shape: u32,
+    format: u32,
+    rate: u32,
+    shape: u32,
     // Bytes of a frame, 0 before the format is known, and of a sample.
-    pub align: u32,
-    pub width: u32,
+    align: u32,
+    width: u32,
     // Frames to come; 0 where they run to the end of the file.
-    pub frames: u32,
+    frames: u32,
 }
 
 // What a byte completes: nothing, the header with its rate, a sample; or why the recording is not read.
@@ -86,6 +88,7 @@ pub enum Out {
     Bad(Fault),
 }
 
+// The reader after a byte, and what the byte completes.
 pub struct Step {
     pub state: Wav,
     pub out: Out,

@@ -20,7 +20,7 @@ array-share-prefix-buf : tie.Need-array-share-prefix-buf
 array-share-prefix-buf c =
     let s = c .before .before .before .before .before in
     let r = c .before .before .read in
-    omega (arith, c .before .buf2 .given, count-few (s .args .rx) (s .args .desk) (s .pre .0) (s .pre .1) (s .pre .2) (r .result .state) _ _ _ (c .before .before .before .before .zeros-512 .ensures) (r .ensures .0) (r .ensures .1))
+    omega (arith, c .before .buf2 .given, count-few (s .args .rx) (s .args .decoder) (s .pre .0) (s .pre .1) (s .pre .2) (r .result .state) _ _ _ (c .before .before .before .before .zeros-512 .ensures) (r .ensures .0) (r .ensures .1))
 
 slice-aggregate-feed : tie.Need-slice-aggregate-feed
 slice-aggregate-feed c = sym (length-take-le _ _ (array-share-prefix-buf (c .before)))
@@ -32,7 +32,7 @@ returns : tie.Need-returns
 returns c =
     let s = c .before .before .before .before .before .before .before .before in
     let r = c .before .before .before .before .before .read in
-    reads-to (s .args .rx) (s .args .desk) (s .pre .0) (s .pre .1) (s .pre .2) (r .result .state) _ _ _ (c .before .before .before .before .before .before .before .zeros-512 .ensures) (r .ensures .0) (r .ensures .1) (c .before .feed .result) (c .before .feed .ensures)
+    reads-to (s .args .rx) (s .args .decoder) (s .pre .0) (s .pre .1) (s .pre .2) (r .result .state) _ _ _ (c .before .before .before .before .before .before .before .zeros-512 .ensures) (r .ensures .0) (r .ensures .1) (c .before .feed .result) (c .before .feed .ensures)
 
 pub read-all-spec : {M : Type 1} → statement M
 read-all-spec =

@@ -4,7 +4,7 @@ use native.Mathlib.Omega.{arith}
 use mathlib.Core.Path.{_≡_, refl}
 use Prim.Native.Nat.{_-_, _≤_}
 use lib.ListN.{length, take}
-use Rattle.board.specs.Held.{plainOf, eventsIn}
+use Rattle.board.specs.BoardRep.{plainOf, eventsIn}
 use borrow.Author.Needs.{needs}
 use Rattle.board.proofs.writes.all_writes.Statement.{statement}
 use Rattle.board.proofs.writes.all_writes.Tie as tie

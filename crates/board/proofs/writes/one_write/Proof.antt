@@ -22,8 +22,8 @@ part-write-end c = search needs
 write-requires : tie.Need-write-requires
 write-requires c κs = search needs
 
-told-of-requires : tie.Need-told-of-requires
-told-of-requires c κs = search needs
+numbers-of-requires : tie.Need-numbers-of-requires
+numbers-of-requires c κs = search needs
 
 tell-requires : tie.Need-tell-requires
 tell-requires c κs = search needs
@@ -36,8 +36,8 @@ returns c =
     let s = c .before .before .before .before .before .before .before .before .before .before .before .before in
     let pe = c .before .before .before .before .before .before .before .before .part-end in
     let w = c .before .before .before .before .before .before .write in
-    let t = c .before .before .before .before .before .told-of in
-    steps (s .args .p) _ _ _ (w .result) (t .result) _ _ _ (pe .ensures .0) (pe .ensures .2) (w .ensures) (t .ensures) (c .before .before .before .tell .ensures)
+    let t = c .before .before .before .before .before .numbers-of in
+    steps (s .args .p) _ _ _ (w .result) (t .result) _ _ _ (pe .ensures .0) (pe .ensures .2 (s .pre .0 .read)) (w .ensures) (t .ensures) (c .before .before .before .tell .ensures)
 
 pub one-write-spec : {M : Type 1} → statement M
 one-write-spec =
@@ -49,7 +49,7 @@ one-write-spec =
     part-write-start
     part-write-end
     write-requires
-    told-of-requires
+    numbers-of-requires
     tell-requires
     same-length
     returns)

@@ -1,7 +1,7 @@
 -- `resample::all_calls` meets its contract. The invariant: the calls so far, before what the rest does, are what the whole list does. Assumes nothing.
 use Rattle.calls.proofs.Calls.{after-start, processed-step, processed-end}
 use native.Mathlib.Omega.{arith}
-use Rattle.resampling.specs.ResampleHeld.{stateOf}
+use Rattle.resampling.specs.ResampleRep.{stateOf}
 use Rattle.calls.specs.Steps.{Within}
 use Rattle.calls.specs.Resample.{after, processedFrom}
 use lib.ListN.{length, take, drop}

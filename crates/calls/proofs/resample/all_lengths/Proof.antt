@@ -1,7 +1,7 @@
 -- `resample::all_lengths` meets its contract. The invariant: the calls so far, before what the rest does, are what the whole list does. Assumes nothing.
 use Rattle.calls.proofs.Calls.{lengths-step, lengths-end, after-start}
 use native.Mathlib.Omega.{arith}
-use Rattle.resampling.specs.ResampleHeld.{stateOf}
+use Rattle.resampling.specs.ResampleRep.{stateOf}
 use Rattle.calls.specs.Resample.{after, lengthsFrom}
 use lib.ListN.{length, take, drop}
 use mathlib.Core.List.{[]}

@@ -35,8 +35,8 @@ part-process-end-2 c = search needs
 process-requires : tie.Need-process-requires
 process-requires c κs = search needs
 
-told-of-requires : tie.Need-told-of-requires
-told-of-requires c κs = search needs
+numbers-of-requires : tie.Need-numbers-of-requires
+numbers-of-requires c κs = search needs
 
 tell-requires : tie.Need-tell-requires
 tell-requires c κs = search needs
@@ -46,8 +46,8 @@ add-t15 c =
     let s = c .before .before .before .before .before .before .before .before .before .before .before .before .before .before .before .before .before in
     let pe = c .before .before .before .before .before .before .before .before .before .before .before .before .part-end in
     let pr = c .before .before .before .before .before .before .before .before .before .process in
-    let w = call-written (s .args .p) _ _ _ (s .args .output .now) (s .pre .0) (pe .ensures .0) (pe .ensures .2) _ _ _ (pr .ensures .0) in
-    let k = c .before .before .before .before .before .before .told-of .ensures .1 in
+    let w = call-written (s .args .p) _ _ _ (s .args .output .now) (s .pre .0) (pe .ensures .0) (pe .ensures .2 (s .pre .0 .read)) _ _ _ (pr .ensures .0) in
+    let k = c .before .before .before .before .before .before .numbers-of .ensures .1 in
     let g = c .before .before .before .before .before .before .before .before .output .given in
     omega (arith, w, k, g .1, s .good)
 
@@ -62,11 +62,11 @@ returns c =
     let s = c .before .before .before .before .before .before .before .before .before .before .before .before .before .before .before .before .before in
     let pe = c .before .before .before .before .before .before .before .before .before .before .before .before .part-end in
     let pr = c .before .before .before .before .before .before .before .before .before .process in
-    let to = c .before .before .before .before .before .before .told-of in
+    let to = c .before .before .before .before .before .before .numbers-of in
     let te = c .before .before .before .before .tell in
     let o = s .args .output .now in (
-      call-steps (s .args .p) _ _ _ o (s .pre .0) (pe .ensures .0) (pe .ensures .2) _ _ _ (pr .ensures .0) (to .result) (to .ensures .0) (to .ensures .1) _ _ _ (te .ensures),
-      call-within (s .args .p) _ _ _ o (s .pre .0) (pe .ensures .0) (pe .ensures .2) _ _ _ (pr .ensures .0) (pr .ensures .1) _ (to .ensures .1),
+      call-steps (s .args .p) _ _ _ o (s .pre .0) (pe .ensures .0) (pe .ensures .2 (s .pre .0 .read)) _ _ _ (pr .ensures .0) (to .result) (to .ensures .0) (to .ensures .1) _ _ _ (te .ensures),
+      call-within (s .args .p) _ _ _ o (s .pre .0) (pe .ensures .0) (pe .ensures .2 (s .pre .0 .read)) _ _ _ (pr .ensures .0) (pr .ensures .1) _ (to .ensures .1),
     )
 
 pub one-call-spec : {M : Type 1} → statement M
@@ -83,7 +83,7 @@ one-call-spec =
     part-process-start-2
     part-process-end-2
     process-requires
-    told-of-requires
+    numbers-of-requires
     tell-requires
     add-t15
     same-length

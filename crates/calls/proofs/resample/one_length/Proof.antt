@@ -6,8 +6,8 @@ use Rattle.calls.proofs.resample.one_length.Tie as tie
 max-output-len-requires : tie.Need-max-output-len-requires
 max-output-len-requires c κs = search needs
 
-told-of-requires : tie.Need-told-of-requires
-told-of-requires c κs = search needs
+numbers-of-requires : tie.Need-numbers-of-requires
+numbers-of-requires c κs = search needs
 
 tell-requires : tie.Need-tell-requires
 tell-requires c κs = search needs
@@ -20,4 +20,4 @@ returns c = cc
 
 pub one-length-spec : {M : Type 1} → statement M
 one-length-spec =
-    tie.close (tie.spec max-output-len-requires told-of-requires tell-requires same-length returns)
+    tie.close (tie.spec max-output-len-requires numbers-of-requires tell-requires same-length returns)

@@ -2,11 +2,11 @@
 use Prim.Native.Nat.{_≤_}
 use lib.ListN.{length}
 use native.Mathlib.Omega.{arith}
-use Rattle.resampling.specs.ResampleHeld.{stateOf}
+use Rattle.resampling.specs.ResampleRep.{stateOf}
 use Rattle.modem.specs.Rx.{acceptedBy, heardBy}
-use Rattle.modem.specs.RxHeld.{receiverOf}
+use Rattle.modem.specs.RxRep.{receiverOf}
 use Rattle.modem.proofs.Receiving.{passes, bytes-fit}
-use Rattle.hearing.proofs.Resampled.{plain}
+use Rattle.modem.proofs.Resampled.{plain}
 use Rattle.modem.proofs.rx.accept_plain.Statement.{statement}
 use Rattle.modem.proofs.rx.accept_plain.Tie as tie
 
@@ -34,7 +34,7 @@ returns c =
     let b = s .pre .0 in
     let h = c .before .before .before .hear-plain .ensures in
     let r = hear-plain-requires (c .before .before .before .before) (c .before .before .before .hear-plain .lifetimes) .0 in (
-      rw (plain (s .args .rx .resampler) (s .args .samples .now) (b .resampler) (s .pre .2), h .after, h .kept .waits, h .events .waits),
+      rw (plain (s .args .rx .resampler) (s .args .samples .now) (s .pre .2), h .after, h .kept .waits, h .events .waits),
       record {
         resampler = b .resampler;
         to-8000 = b .to-8000;

@@ -1,14 +1,14 @@
 -- `rx::accept_resampled` meets its contract: what passes the checks fits the arrays, and the two steps are the definition's. Assumes nothing.
-use Rattle.resampling.specs.ResampleHeld.{stateOf}
+use Rattle.resampling.specs.ResampleRep.{stateOf}
 use Rattle.modem.specs.Rx.{acceptedBy, heardBy}
-use Rattle.modem.specs.RxHeld.{receiverOf}
+use Rattle.modem.specs.RxRep.{receiverOf}
 use native.Mathlib.Omega.{arith}
 use lib.Seq.{length-take-le}
 use Prim.Native.Nat.{_≤_}
 use mathlib.Core.Path.{_≡_, sym, _∙_}
 use lib.ListN.{length, take}
 use Rattle.modem.proofs.Receiving.{passes, bytes-fit}
-use Rattle.hearing.proofs.Resampled.{fits-scratch}
+use Rattle.modem.proofs.Resampled.{fits-scratch}
 use borrow.Author.Needs.{needs}
 use Rattle.modem.proofs.rx.accept_resampled.Statement.{statement}
 use Rattle.modem.proofs.rx.accept_resampled.Tie as tie

@@ -1,11 +1,11 @@
 -- `rx::fresh_at` meets its contract, by those of its parts. Assumes nothing.
 use mathlib.Core.Path.{ap, _∙_}
 use Rattle.resampling.specs.Resample.{State}
-use Rattle.resampling.specs.ResampleHeld.{stateOf}
+use Rattle.resampling.specs.ResampleRep.{stateOf}
 use Rattle.modem.proofs.Receiving.{fresh-resampler, fresh-dst}
 use native.Mathlib.Omega.{arith}
 use Rattle.modem.specs.Rx.{freshReceiver, freshDemod}
-use Rattle.modem.specs.RxHeld.{receiverOf}
+use Rattle.modem.specs.RxRep.{receiverOf}
 use borrow.Author.Needs.{needs}
 use Rattle.modem.proofs.rx.fresh_at.Statement.{statement}
 use Rattle.modem.proofs.rx.fresh_at.Tie as tie

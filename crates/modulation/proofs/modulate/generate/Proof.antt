@@ -4,9 +4,9 @@ use mathlib.Core.Path.{_≡_, refl, _∙_}
 use mathlib.Core.List.{[]}
 use native.Mathlib.Omega.{arith}
 use lib.ListN.{length, set, length-set}
-use Rattle.bitqueue.specs.Bits.{BitsHeld}
+use Rattle.modulation.specs.Bits.{BitsHeld}
 use Rattle.modulation.specs.Tone.{generated}
-use Rattle.modulation.specs.ModulatorHeld.{keyerOf}
+use Rattle.modulation.specs.ModulatorRep.{keyerOf}
 use Rattle.modulation.proofs.Slices.{lent-length}
 use Rattle.modulation.proofs.Tones.{soundAt, sound-start, sound-four, sound-rest}
 use borrow.Author.Needs.{needs}

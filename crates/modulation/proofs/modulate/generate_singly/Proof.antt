@@ -4,9 +4,9 @@ use mathlib.Core.Path.{_≡_, refl, _∙_}
 use native.Mathlib.Omega.{arith}
 use mathlib.Core.List.{[]}
 use lib.ListN.{length, length-set}
-use Rattle.bitqueue.specs.Bits.{BitsHeld}
+use Rattle.modulation.specs.Bits.{BitsHeld}
 use Rattle.modulation.specs.Tone.{generated}
-use Rattle.modulation.specs.ModulatorHeld.{keyerOf}
+use Rattle.modulation.specs.ModulatorRep.{keyerOf}
 use Rattle.modulation.proofs.Tones.{soundAt, sound-start, sound-turn, sound-done}
 use Rattle.modulation.proofs.modulate.generate_singly.Statement.{statement}
 use Rattle.modulation.proofs.modulate.generate_singly.Tie as tie

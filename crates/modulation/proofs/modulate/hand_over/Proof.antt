@@ -7,11 +7,11 @@ use borrow.Author.Needs.{needs}
 use Rattle.modulation.proofs.modulate.hand_over.Statement.{statement}
 use Rattle.modulation.proofs.modulate.hand_over.Tie as tie
 
-lesser-requires : tie.Need-lesser-requires
-lesser-requires c κs = search needs
+smaller-requires : tie.Need-smaller-requires
+smaller-requires c κs = search needs
 
 slice-aggregate-copy : tie.Need-slice-aggregate-copy
-slice-aggregate-copy c = sym (length-take-le _ _ (omega (arith, c .before .lesser .ensures)))
+slice-aggregate-copy c = sym (length-take-le _ _ (c .before .smaller .ensures .2))
 
 slice-relend-prefix-copy : tie.Need-slice-relend-prefix-copy
 slice-relend-prefix-copy c = search needs
@@ -26,13 +26,13 @@ same-length : tie.Need-same-length
 same-length c = search needs
 
 returns : tie.Need-returns
-returns c = hands _ _ _ _ _ (c .before .before .before .before .before .lesser .ensures) (c .before .before .copy .ensures) (same-length c)
+returns c = hands _ _ _ _ _ (c .before .before .before .before .before .smaller .ensures .0) (c .before .before .copy .ensures) (same-length c)
 
 pub hand-over-spec : {M : Type 1} → statement M
 hand-over-spec =
     tie.close
     (tie.spec
-    lesser-requires
+    smaller-requires
     slice-aggregate-copy
     slice-relend-prefix-copy
     slice-aggregate-copy-2

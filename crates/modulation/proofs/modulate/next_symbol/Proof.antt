@@ -1,5 +1,5 @@
 -- `tx::next_symbol` meets its contract: by those of the bit queue and the oscillator. Assumes nothing.
-use Rattle.modulation.proofs.Tones.{struck-is}
+use Rattle.modulation.proofs.Tones.{keyed-is}
 use borrow.Author.Needs.{needs}
 use Rattle.modulation.proofs.modulate.next_symbol.Statement.{statement}
 use Rattle.modulation.proofs.modulate.next_symbol.Tie as tie
@@ -14,7 +14,7 @@ set-freq-requires : tie.Need-set-freq-requires
 set-freq-requires c κs = search needs
 
 returns : tie.Need-returns
-returns c = (struck-is _ _ _ _ _ _ _ _ _ (c .before .before .take-bit .ensures) (c .before .tone-of .ensures) (c .set-freq .ensures), c .before .before .take-bit .ensures .held)
+returns c = (keyed-is _ _ _ _ _ _ _ _ _ (c .before .before .take-bit .ensures) (c .before .tone-of .ensures) (c .set-freq .ensures), c .before .before .take-bit .ensures .held)
 
 pub next-symbol-spec : {M : Type 1} → statement M
 next-symbol-spec =

@@ -9,11 +9,11 @@ use borrow.Author.Needs.{needs}
 use Rattle.modulation.proofs.modulate.share.Statement.{statement}
 use Rattle.modulation.proofs.modulate.share.Tie as tie
 
-lesser-requires : tie.Need-lesser-requires
-lesser-requires c κs = search needs
+smaller-requires : tie.Need-smaller-requires
+smaller-requires c κs = search needs
 
 slice-aggregate-scale-into : tie.Need-slice-aggregate-scale-into
-slice-aggregate-scale-into c = sym (length-take-le _ _ (omega (arith, c .before .lesser .ensures)))
+slice-aggregate-scale-into c = sym (length-take-le _ _ (c .before .smaller .ensures .2))
 
 slice-relend-prefix-scale-into : tie.Need-slice-relend-prefix-scale-into
 slice-relend-prefix-scale-into c = search needs
@@ -48,7 +48,7 @@ slice-aggregate-scale-into-3 c = sym (length-take-le _ _ (slice-relend-prefix-sc
 scale-into-requires-2 : tie.Need-scale-into-requires-2
 scale-into-requires-2 c κs =
     let xs = c .before .before .before .before .before .before .before .before .before .before .before .args .xs .now in
-    let k = c .before .before .before .before .before .before .before .lesser .result in
+    let k = c .before .before .before .before .before .before .before .smaller .result in
     ap length (take-rest k xs) ∙ length-drop k xs ∙ slice-aggregate-scale-into-3 c
 
 same-length : tie.Need-same-length
@@ -58,13 +58,13 @@ same-length-2 : tie.Need-same-length-2
 same-length-2 c = search needs
 
 returns : tie.Need-returns
-returns c = shares _ _ _ _ _ _ _ _ (c .before .before .before .before .before .before .before .before .before .before .lesser .ensures) (c .before .before .before .before .before .before .before .scale-into .ensures) (c .before .before .scale-into2 .ensures) (same-length c ∙ c .before .before .before .before .before .before .before .before .before .before .before .before .before .before .pre .1)
+returns c = shares _ _ _ _ _ _ _ _ (c .before .before .before .before .before .before .before .before .before .before .smaller .ensures .0) (c .before .before .before .before .before .before .before .scale-into .ensures) (c .before .before .scale-into2 .ensures) (same-length c ∙ c .before .before .before .before .before .before .before .before .before .before .before .before .before .before .pre .1)
 
 pub share-spec : {M : Type 1} → statement M
 share-spec =
     tie.close
     (tie.spec
-    lesser-requires
+    smaller-requires
     slice-aggregate-scale-into
     slice-relend-prefix-scale-into
     slice-aggregate-scale-into-2

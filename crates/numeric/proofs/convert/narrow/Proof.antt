@@ -4,7 +4,7 @@ use mathlib.Core.Path.{sym, ap, _∙_, subst}
 use native.Mathlib.Omega.{arith}
 use lib.Dec.{T}
 use lib.Ieee.Compare.{differs-from-itself}
-use Rattle.numeric.specs.Whole.{not-nan}
+use Rattle.numeric.proofs.Whole.{not-nan}
 use Rattle.numeric.specs.Convert.{narrowed}
 use Rattle.numeric.proofs.Narrow.{narrowed-nan, signed-below, signed-number, narrow-law}
 use Rattle.numeric.proofs.convert.narrow.Statement.{statement}

@@ -1,7 +1,7 @@
 -- Bits below 2^63 leave room for what is added. Assumes nothing.
 use borrow.Author.Needs.{needs}
-use Rattle.numeric.specs.Whole.{not-nan}
-use Rattle.numeric.proofs.Squares.{guess-number}
+use Rattle.numeric.proofs.Whole.{not-nan}
+use Rattle.numeric.proofs.RootLaws.{guess-number}
 use Rattle.numeric.proofs.root.first_guess.Statement.{statement}
 use Rattle.numeric.proofs.root.first_guess.Tie as tie
 

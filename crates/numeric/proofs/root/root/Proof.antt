@@ -3,8 +3,8 @@ use mathlib.Core.Path.{_≡_, sym, ap, _∙_, subst}
 use lib.Dec.{T}
 use lib.Ieee.{Float, nan}
 use lib.Ieee.Compare.{differs-from-itself}
-use Rattle.numeric.specs.Root.{rootOf, improved, improved-nan, guess, squares}
-use Rattle.numeric.proofs.Squares.{squares-lt}
+use Rattle.numeric.specs.Root.{rootOf, improved, guess, squares}
+use Rattle.numeric.proofs.RootLaws.{squares-lt, improved-nan}
 use Rattle.numeric.proofs.root.root.Statement.{statement}
 use Rattle.numeric.proofs.root.root.Tie as tie
 

@@ -1,7 +1,7 @@
 -- Two sums above 0.0 have the guesses and the steps of `root`, each its own; else each root is what `root` ensures. Assumes nothing.
 use borrow.Author.Needs.{needs}
 use Rattle.numeric.specs.Root.{improved}
-use Rattle.numeric.proofs.Squares.{guess-asks, root-above}
+use Rattle.numeric.proofs.RootLaws.{guess-asks, root-above}
 use Rattle.numeric.proofs.root.roots.Statement.{statement}
 use Rattle.numeric.proofs.root.roots.Tie as tie
 

@@ -2,7 +2,8 @@
 use Prim.Native.Nat.{ℕ, _≤_}
 use mathlib.Core.Path.{_≡_, refl, sym, ap, _∙_}
 use native.Mathlib.Omega.{arith}
-use Rattle.numeric.specs.Sine.{reduced, reduced-stop, reduced-end, reduced-more}
+use Rattle.numeric.specs.Sine.{reduced}
+use Rattle.numeric.proofs.SineLaws.{reduced-stop, reduced-end, reduced-more}
 use Rattle.numeric.proofs.sine.reduce.Statement.{statement}
 use Rattle.numeric.proofs.sine.reduce.Tie as tie
 

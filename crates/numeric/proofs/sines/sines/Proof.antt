@@ -1,5 +1,5 @@
 -- Where none is beyond its turn, each value is its steps'; else it is what `sine` ensures. Assumes nothing.
-use Rattle.numeric.specs.Sines.{within-is}
+use Rattle.numeric.proofs.SinesLaws.{within-is}
 use borrow.Author.Needs.{needs}
 use Rattle.numeric.proofs.sines.sines.Statement.{statement}
 use Rattle.numeric.proofs.sines.sines.Tie as tie

@@ -1,5 +1,5 @@
 -- Each value is its steps'. Assumes nothing.
-use Rattle.numeric.specs.Sines.{steps-are}
+use Rattle.numeric.proofs.SinesLaws.{steps-are}
 use borrow.Author.Needs.{needs}
 use Rattle.numeric.proofs.sines.sines_within.Statement.{statement}
 use Rattle.numeric.proofs.sines.sines_within.Tie as tie

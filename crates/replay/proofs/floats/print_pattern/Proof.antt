@@ -1,5 +1,5 @@
 -- What equals itself is no NaN. Assumes nothing.
-use Rattle.numeric.specs.Whole.{not-nan}
+use Rattle.numeric.proofs.Whole.{not-nan}
 use borrow.Author.Needs.{needs}
 use Rattle.replay.proofs.floats.print_pattern.Statement.{statement}
 use Rattle.replay.proofs.floats.print_pattern.Tie as tie

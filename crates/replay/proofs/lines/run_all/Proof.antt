@@ -1,7 +1,7 @@
 -- The states stay sound, and block and line keep their lengths; the count of turns falls. Assumes nothing.
 use native.Mathlib.Omega.{arith}
 use Prim.Native.Nat.{_≤_}
-use Rattle.replay.specs.Desk.{DeskSound}
+use Rattle.replay.specs.Decoder.{DecoderSound}
 use mathlib.Core.Path.{_≡_}
 use lib.ListN.{length}
 use borrow.Author.Needs.{needs}
@@ -9,7 +9,7 @@ use Rattle.replay.proofs.lines.run_all.Statement.{statement}
 use Rattle.replay.proofs.lines.run_all.Tie as tie
 
 abbrev Inv-loop : tie.InvT-loop
-Inv-loop block₀ line₀ d₀ n₀ turns₀ block line d n turns = DeskSound d × (length block ≡ 2049) × (length line ≡ 321) × (n ≤ 321)
+Inv-loop block₀ line₀ d₀ n₀ turns₀ block line d n turns = DecoderSound d × (length block ≡ 2049) × (length line ≡ 321) × (n ≤ 321)
 
 abbrev μ-loop : tie.MeasureT-loop
 μ-loop block₀ line₀ d₀ n₀ turns₀ block line d n turns = turns

@@ -2,7 +2,7 @@
 use native.Mathlib.Omega.{arith}
 use lib.Seq.{length-take-le}
 use Prim.Native.Nat.{ℕ, _≤_, _-_}
-use Rattle.replay.specs.Desk.{DeskSound}
+use Rattle.replay.specs.Decoder.{DecoderSound}
 use mathlib.Core.Path.{_≡_, sym, subst, _∙_}
 use lib.ListN.{length}
 use borrow.Author.Needs.{needs}
@@ -10,7 +10,7 @@ use Rattle.replay.proofs.lines.run_part.Statement.{statement}
 use Rattle.replay.proofs.lines.run_part.Tie as tie
 
 abbrev Inv-loop : tie.InvT-loop
-Inv-loop block₀ line₀ filled input d₀ n₀ at₀ block line d n at = DeskSound d × (length block ≡ 2049) × (length line ≡ 321) × (n ≤ 321) × (at ≤ length input)
+Inv-loop block₀ line₀ filled input d₀ n₀ at₀ block line d n at = DecoderSound d × (length block ≡ 2049) × (length line ≡ 321) × (n ≤ 321) × (at ≤ length input)
 
 abbrev μ-loop : tie.MeasureT-loop
 μ-loop block₀ line₀ filled input d₀ n₀ at₀ block line d n at = length input - at

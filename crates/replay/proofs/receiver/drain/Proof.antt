@@ -1,5 +1,5 @@
 -- The receiver stays sound; the count falls. Assumes nothing.
-use Rattle.modem.specs.RxHeld.{RxSound}
+use Rattle.modem.specs.RxRep.{RxSound}
 use borrow.Author.Needs.{needs}
 use Rattle.replay.proofs.receiver.drain.Statement.{statement}
 use Rattle.replay.proofs.receiver.drain.Tie as tie

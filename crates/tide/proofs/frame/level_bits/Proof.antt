@@ -1,4 +1,4 @@
--- Two bytes, high byte first. Assumes nothing.
+-- Two bytes, high byte first; digits say bytes below 256. Assumes nothing.
 use native.Mathlib.Omega.{arith}
 use Rattle.tide.specs.Frame.{levelOf}
 use borrow.Author.Needs.{needs}
@@ -20,7 +20,8 @@ add-result c = search needs
 returns : tie.Need-returns
 unfolding levelOf
 returns c =
-    (omega arith, omega arith)
+    let h = c .before .before .before .pre in
+    (omega arith, omega (arith, c .before .byte .ensures .2 h, c .byte2 .ensures .2 h))
 
 pub level-bits-spec : {M : Type 1} → statement M
 level-bits-spec = tie.close (tie.spec byte-requires mul-result byte-requires-2 add-result returns)

@@ -4,7 +4,7 @@ use mathlib.Core.Path.{refl}
 use lib.IntN.{negsuc}
 use mir.Syntax.{w16}
 use mir.ValLaws.{toZ-pos, toZ-ofZ}
-use Rattle.tide.proofs.Places.{minus-one}
+use Rattle.tide.proofs.Checks.{minus-one}
 use native.Mathlib.Omega.{arith}
 use borrow.Author.Tests.{lt-ltb, le-ltb}
 use Rattle.tide.specs.Frame.{signed}

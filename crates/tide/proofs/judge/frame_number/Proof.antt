@@ -4,9 +4,8 @@ use mathlib.Core.Path.{_≡_, _∙_, sym}
 use lib.ListN.{length, getD}
 use denote.Ref.{now}
 use native.Mathlib.Omega.{arith}
-use Rattle.tide.specs.Hex.{unhex}
-use Rattle.tide.specs.Frame.{total}
-use Rattle.tide.specs.HexLaws.{length-unhex}
+use Rattle.hexadecimal.specs.Hex.{unhex, total}
+use Rattle.hexadecimal.proofs.HexLaws.{length-unhex}
 use Rattle.tide.proofs.Checks.{is-14, is-15, is-16, is-17, is-18}
 use borrow.Author.Needs.{needs}
 use Rattle.tide.proofs.judge.frame_number.Statement.{statement}

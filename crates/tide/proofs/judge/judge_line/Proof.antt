@@ -29,11 +29,10 @@ returns c =
 
 stamp-of-requires : tie.Need-stamp-of-requires
 stamp-of-requires c κs =
-    (good c .long, good c .digits)
+    good c .digits
 
 age-of-requires : tie.Need-age-of-requires
-age-of-requires c κs =
-    (good (c .before) .long, good (c .before) .digits)
+age-of-requires c κs = search needs
 
 sub-water : tie.Need-sub-water
 sub-water c =
@@ -41,7 +40,7 @@ sub-water c =
 
 level-bits-requires : tie.Need-level-bits-requires
 level-bits-requires c κs =
-    (good (c .before .before) .long, good (c .before .before) .digits)
+    good (c .before .before) .digits
 
 level-of-requires : tie.Need-level-of-requires
 level-of-requires c κs = search needs

@@ -1,5 +1,5 @@
--- `Board::count` meets its contract: the count is the desk's. Assumes nothing.
-use Rattle.board.specs.Held.{plainOf}
+-- `Board::count` meets its contract: the count is the decoder's. Assumes nothing.
+use Rattle.board.specs.BoardRep.{plainOf}
 use borrow.Author.Needs.{needs}
 use Rattle.board.proofs.board.Board.count.Statement.{statement}
 use Rattle.board.proofs.board.Board.count.Tie as tie

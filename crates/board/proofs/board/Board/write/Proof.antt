@@ -17,7 +17,7 @@ read-all-requires : tie.Need-read-all-requires
 read-all-requires c κs =
     let s = c .before .before .before .before .before .before .before in
     let w = c .before .before .before .write in
-    (w .ensures .1, s .pre .desk, few-more (s .args .self) (s .args .samples .now) (s .pre) (w .result .state) (rw (c .enum-told .given .1) at (w .ensures .0)))
+    (w .ensures .1, s .pre .decoder, few-more (s .args .self) (s .args .samples .now) (s .pre) (w .result .state) (rw (c .enum-told .given .1) at (w .ensures .0)))
 
 returns : tie.Need-returns
 returns c =

@@ -5,20 +5,20 @@ use native.Mathlib.Omega.{arith}
 use borrow.Author.Needs.{needs}
 use borrow.Author.Tests.{not-true, not-false}
 use lib.Ieee.{Float}
-use Rattle.detection.specs.Carrier.{updated}
-use Rattle.correlation.specs.Correlation.{magnitudeOf, decisionOf, multiplied}
+use Rattle.demodulation.specs.Carrier.{updated}
+use Rattle.demodulation.specs.Correlation.{magnitudeOf, decisionOf, multiplied}
 use Rattle.demodulation.specs.Demod.{latched, fedCore, finished, stepWith, stepOf}
-use Rattle.demodulation.specs.DemodLaws.{step-waits, step-decodes}
-use Rattle.detection.specs.declared.carrier.CarrierDetector.{CarrierDetector}
+use Rattle.demodulation.proofs.DemodLaws.{step-waits, step-decodes}
+use Rattle.demodulation.specs.declared.carrier.CarrierDetector.{CarrierDetector}
 use Rattle.demodulation.specs.declared.demod.Core.{Core}
 use Rattle.demodulation.specs.declared.demod.CoreStep.{CoreStep}
-use Rattle.correlation.specs.declared.correlator.Decision.{Decision}
+use Rattle.demodulation.specs.declared.correlator.Decision.{Decision}
 use Rattle.demodulation.specs.declared.demod.Demodulator.{Demodulator}
 use Rattle.demodulation.specs.declared.demod.Latch.{Latch}
-use Rattle.correlation.specs.declared.correlator.Rings.{Rings}
+use Rattle.demodulation.specs.declared.correlator.Rings.{Rings}
 use Rattle.framing.specs.declared.frame.Heard.the-variants.{Waiting}
 use Rattle.demodulation.specs.declared.demod.Event.the-variants.{Nothing}
-use Rattle.correlation.specs.SummingLaws.{summed-kept, tone-end}
+use Rattle.demodulation.proofs.SummingLaws.{summed-kept, tone-end}
 use Rattle.demodulation.proofs.demod.Core.step.Statement.{statement}
 use Rattle.demodulation.proofs.demod.Core.step.Tie as tie
 

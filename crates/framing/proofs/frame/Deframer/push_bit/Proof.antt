@@ -1,7 +1,7 @@
 -- The two tests choose the step, and the step's own contract gives the answer.
 use mathlib.Core.Path.{sym, _∙_}
 use borrow.Author.Needs.{needs}
-use Rattle.framing.specs.Frame.{push-idle, push-data, push-stop}
+use Rattle.framing.proofs.FrameLaws.{push-idle, push-data, push-stop}
 use Rattle.framing.proofs.frame.Deframer.push_bit.Statement.{statement}
 use Rattle.framing.proofs.frame.Deframer.push_bit.Tie as tie
 

@@ -1,5 +1,5 @@
 -- `Rx::carrier_detected` meets its contract: the report is the demodulator's. Assumes nothing.
-use Rattle.modem.specs.RxHeld.{receiverOf}
+use Rattle.modem.specs.RxRep.{receiverOf}
 use borrow.Author.Needs.{needs}
 use Rattle.modem.proofs.rx.Rx.carrier_detected.Statement.{statement}
 use Rattle.modem.proofs.rx.Rx.carrier_detected.Tie as tie

@@ -1,6 +1,6 @@
 -- `Rx::events` meets its contract: the queue's is the receiver's. Assumes nothing.
 use Rattle.modem.specs.Rx.{eventOf}
-use Rattle.modem.specs.RxHeld.{receiverOf}
+use Rattle.modem.specs.RxRep.{receiverOf}
 use Rattle.modem.proofs.rx.Rx.events.Statement.{statement}
 use Rattle.modem.proofs.rx.Rx.events.Tie as tie
 

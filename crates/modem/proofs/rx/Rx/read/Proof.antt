@@ -1,6 +1,6 @@
 -- `Rx::read` meets its contract: the queue's is the receiver's. Assumes nothing.
 use Rattle.modem.specs.Rx.{readOf}
-use Rattle.modem.specs.RxHeld.{receiverOf}
+use Rattle.modem.specs.RxRep.{receiverOf}
 use borrow.Author.Needs.{needs}
 use Rattle.modem.proofs.rx.Rx.read.Statement.{statement}
 use Rattle.modem.proofs.rx.Rx.read.Tie as tie

@@ -1,11 +1,11 @@
 -- `Rx::write` meets its contract: a write that no check refuses is accepted, and any other changes nothing. Assumes nothing.
 use Prim.Native.Nat.{ℕ}
 use Rattle.refusal.specs.Refusals.{replyOf}
-use Rattle.samples.specs.Write.{refusedBy}
-use Rattle.modem.specs.RxHeld.{receiverOf}
-use Rattle.queues.specs.QueueLaws.{queued-length}
+use Rattle.modem.specs.Write.{refusedBy}
+use Rattle.modem.specs.RxRep.{receiverOf}
+use Rattle.modem.proofs.QueueLaws.{queued-length}
 use mathlib.Core.Path.{sym, ap, _∙_}
-use Rattle.refusal.specs.Refusals.{accepted-none}
+use Rattle.refusal.proofs.RefusalLaws.{accepted-none}
 use Rattle.modem.proofs.Receiving.{went-through, stopped}
 use borrow.Author.Needs.{needs}
 use Rattle.modem.proofs.rx.Rx.write.Statement.{statement}

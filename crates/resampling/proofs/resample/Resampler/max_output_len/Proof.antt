@@ -1,6 +1,6 @@
 -- `Resampler::max_output_len` meets its contract: each arm returns what the definition picks. Assumes nothing.
 use borrow.Author.Tests.{lt-ltb, le-ltb}
-use Rattle.resampling.specs.ResampleHeld.{stateOf}
+use Rattle.resampling.specs.ResampleRep.{stateOf}
 use Rattle.resampling.specs.Resample.{lenOf, tooMany}
 use borrow.Author.Needs.{needs}
 use Rattle.resampling.proofs.resample.Resampler.max_output_len.Statement.{statement}

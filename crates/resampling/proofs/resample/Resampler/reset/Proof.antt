@@ -5,8 +5,8 @@ use Rattle.numeric.specs.F64.{zero64}
 use mathlib.Core.Path.{ap, _∙_}
 use lib.ListN.{length, length-replicate}
 use Rattle.resampling.proofs.Answers.{fresh-is}
-use Rattle.resampling.specs.ResampleHeld.{stateOf}
-use Rattle.feeding.specs.FlowHeld.{flowOf}
+use Rattle.resampling.specs.ResampleRep.{stateOf}
+use Rattle.resampling.specs.FlowRep.{flowOf}
 use borrow.Author.Needs.{needs}
 use Rattle.resampling.proofs.resample.Resampler.reset.Statement.{statement}
 use Rattle.resampling.proofs.resample.Resampler.reset.Tie as tie

@@ -1,3 +1,0 @@
--- Laws for the proofs of `bitqueue`.
-pub mod Ring
-pub mod Room

@@ -1,0 +1,32 @@
+// How a write's answer goes into a lent slice.
+ghost use mathlib.Core.Path.{_≡_};
+ghost use mathlib.Core.List.{[], _∷_};
+ghost use Prim.Native.Nat.{min, _+_, _/_, _≤_};
+ghost use lib.ListN.{length};
+ghost use Rattle.board.specs.Runs.{putAt};
+
+// An answer's four numbers.
+pub struct Numbers {
+    pub number: u32,
+    pub bytes: u64,
+    pub lines: u64,
+    pub last: u8,
+}
+
+// Writes the four numbers at `at`.
+pub fn tell(answers: &mut [u64], at: usize, t: Numbers)
+    requires { ⌜ at + 4 ≤ length (now answers) ⌝ }
+    ensures { λ _. ⌜ now (answers .exit) ≡ putAt at (t .number ∷ t .bytes ∷ t .lines ∷ t .last ∷ []) (now (answers .entry)) ⌝ }
+{
+    answers[at] = t.number as u64;
+    answers[at + 1] = t.bytes;
+    answers[at + 2] = t.lines;
+    answers[at + 3] = t.last as u64;
+}
+
+// How many of the writes have room for four numbers.
+pub fn writes_in(writes: usize, room: usize) -> usize
+    ensures { λ r. ⌜ r ≡ min writes (room / 4) ⌝ }
+{
+    if writes < room / 4 { writes } else { room / 4 }
+}

@@ -1,2 +1,0 @@
--- What a board shows, as numbers.
-pub mod Shown

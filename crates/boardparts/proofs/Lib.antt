@@ -1,2 +1,0 @@
--- Laws that the proofs of `boardparts` cite.
-pub mod Parts

@@ -1,2 +1,0 @@
--- The definitions that the contracts of `boardparts` cite.
-pub mod Station

@@ -1,4 +1,0 @@
--- What the parts of lists of calls give.
-pub mod Answers
-pub mod Made
-pub mod Roles

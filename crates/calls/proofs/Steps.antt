@@ -1,0 +1,139 @@
+-- Calls of the sender, one after the other, over lists. Assumes nothing.
+use Prim.Native.Nat.{ℕ, suc, min, _+_, _*_, _-_, _≤_}
+use mathlib.Core.Path.{_≡_, refl, sym, ap, _∙_}
+use mathlib.Core.Bool.{true, false}
+use mathlib.Core.List.{List, [], _∷_, _++_, append-assoc}
+use native.Mathlib.Nat.{add-zero, sub-zero}
+use native.Mathlib.Numerals.{add-one}
+use native.Mathlib.Omega.{arith}
+use lib.ListN.{length, getD, set, take, drop, length-append, length-drop, take-append-drop}
+use lib.Seq.{drop-drop, getD-drop, length-take-le, sets-eq}
+use lib.Ieee.{Float}
+use Rattle.numeric.proofs.Parts.{part-next, part-left, put-front, put-behind}
+use Rattle.refusal.specs.Refusals.{given, refused, rateRefused}
+use Rattle.bell103.specs.declared.Role.{Role}
+use Rattle.modulation.specs.Tx.{Sender, pendingOf, freshSender, Made, made, newOf}
+use Rattle.modulation.specs.TxRep.{senderOf, TxSound}
+use Rattle.calls.proofs.Made.{accepted-only, refused-only}
+use Rattle.calls.specs.Answers.{bit}
+use Rattle.calls.specs.Resample.{ran, after}
+use Rattle.calls.proofs.Calls.{after-after, after-start}
+use Rattle.calls.specs.Send.{Outcome, called, bytesFor, placesFor, reply, sentFrom}
+use Rattle.calls.specs.SendSteps.{outcomeOf, Within, calledAt, Stepped}
+use Rattle.calls.specs.declared.send.Called.{Called}
+use Rattle.calls.specs.declared.send.Place.{Place}
+
+-- three stores
+pub set-three : {A : Type 0} (l : List A) (at : ℕ) (x y z : A) → at + 3 ≤ length l → set (set (set l at x) (at + 1) y) (at + 2) z ≡ take at l ++ ((x ∷ y ∷ z ∷ []) ++ drop (at + 3) l)
+set-three l at x y z h =
+    let two : at + 2 ≡ suc (suc at) = omega arith in
+    rw (add-one, two) (sets-eq (x ∷ y ∷ z ∷ []) l at h ∙ append-assoc (take at l) (x ∷ y ∷ z ∷ []) (drop (at + 3) l))
+
+-- ---- one call in the code: it lends the bytes from p up to e and the places up to f; the call leaves part′ in these
+module _ (p : Place) (kind n : ℕ) (bytes : List ℕ) (out : List Float) (at-p : Within p bytes out) (e f : ℕ)
+    (e-is : e ≡ p .read + min (bytesFor kind n) (length bytes - p .read)) (f-is : f ≡ p .written + min (placesFor kind n) (length out - p .written))
+    (r : Called) (part′ : List Float)
+    (gave : outcomeOf r part′ ≡ called kind n (senderOf (p .state)) (take (e - p .read) (drop (p .read) bytes)) (take (f - p .written) (drop (p .written) out)))
+    (sound : TxSound (r .state)) where
+  abbrev behind-part : List Float
+  behind-part = drop (f - p .written) (drop (p .written) out)
+
+  abbrev out-after : List Float
+  out-after = take (p .written) out ++ (part′ ++ behind-part)
+
+  abbrev place-after : Place
+  place-after = record { state = r .state; read = e; written = f }
+
+  gave-is : outcomeOf r part′ ≡ calledAt p kind n bytes out
+  gave-is = gave ∙ rw (part-next bytes (p .read) (bytesFor kind n) e e-is, part-next out (p .written) (placesFor kind n) f f-is)
+
+  module _ (long : length out-after ≡ length out) where
+    end-is : p .written + length part′ ≡ f
+    end-is =
+        omega (
+          arith,
+          long,
+          length-append (take (p .written) out) (part′ ++ behind-part),
+          length-append part′ behind-part,
+          length-take-le (p .written) out (at-p .written),
+          length-drop (f - p .written) (drop (p .written) out),
+          length-drop (p .written) out,
+          at-p .written,
+        )
+
+    behind-is : behind-part ≡ drop f out
+    behind-is = let z : p .written + (f - p .written) ≡ f = omega arith in drop-drop (f - p .written) (p .written) out ∙ ap (λ (k : ℕ). drop k out) z
+
+    pub call-within : Within place-after bytes out-after
+    call-within = record { sound = sound; read = omega (arith, at-p .read); written = rw long (omega (arith, at-p .written)) }
+
+    pub call-steps : (before behind ans′ : List ℕ) (waits : ℕ) → waits ≡ bit (pendingOf (senderOf (r .state))) → ans′ ≡ before ++ ((r .number ∷ r .value ∷ waits ∷ []) ++ behind)
+        → Stepped p place-after kind n bytes out out-after before behind ans′
+    call-steps before behind ans′ waits waits-is reply-is =
+        record {
+          state = ap (λ (o : Outcome). o .state) gave-is;
+          left = part-left bytes (p .read) (bytesFor kind n) e e-is;
+          front = ap (λ (k : ℕ). take k out-after) (sym end-is) ∙ put-front out part′ behind-part (p .written) (at-p .written) ∙ ap (λ (o : Outcome). take (p .written) out ++ o .part) gave-is;
+          rest = ap (λ (k : ℕ). drop k out-after) (sym end-is) ∙ put-behind out part′ behind-part (p .written) (at-p .written) ∙ behind-is ∙ part-left out (p .written) (placesFor kind n) f f-is;
+          answers = reply-is ∙ ap (λ (w : ℕ). before ++ ((r .number ∷ r .value ∷ w ∷ []) ++ behind)) waits-is ∙ ap (λ (o : Outcome). before ++ (reply o ++ behind)) gave-is;
+        }
+
+-- ---- calls before calls
+-- before the first of k calls
+pub send-start : (k : ℕ) (s : Sender) (bytes script : List ℕ) (out : List Float) (ans : List ℕ) → after 0 [] [] (sentFrom (k - 0) s bytes script out ans) ≡ sentFrom k s bytes script out ans
+send-start k s bytes script out ans = rw (sub-zero k) (after-start (sentFrom k s bytes script out ans))
+
+-- one call more, with its answer behind the first 3 * i numbers of ans
+module _ (script : List ℕ) (i : ℕ) (ans ans′ : List ℕ) (room : 3 * i + 3 ≤ length ans) (p q : Place) (bytes : List ℕ) (out out′ : List Float)
+    (step : Stepped p q (getD script (2 * i) 0) (getD script (2 * i + 1) 0) bytes out out′ (take (3 * i) ans) (drop (3 * i + 3) ans) ans′) where
+  abbrev gives : Outcome
+  gives = calledAt p (getD script (2 * i) 0) (getD script (2 * i + 1) 0) bytes out
+
+  three : 3 * (i + 1) ≡ 3 * i + 3
+  three = omega arith
+
+  answered : take (3 * (i + 1)) ans′ ≡ take (3 * i) ans ++ reply gives
+  answered = rw (step .answers, three) (put-front ans (reply gives) (drop (3 * i + 3) ans) (3 * i) (omega arith))
+
+  unanswered : drop (3 * (i + 1)) ans′ ≡ drop 3 (drop (3 * i) ans)
+  unanswered = rw (step .answers, three, drop-drop 3 (3 * i) ans) (put-behind ans (reply gives) (drop (3 * i + 3) ans) (3 * i) (omega arith))
+
+  unrun : drop (2 * (i + 1)) script ≡ drop 2 (drop (2 * i) script)
+  unrun =
+      let two : 2 * (i + 1) ≡ 2 * i + 2 = omega arith in
+      rw (two, drop-drop 2 (2 * i) script)
+
+  first-of : getD (drop (2 * i) script) 0 0 ≡ getD script (2 * i) 0
+  first-of = getD-drop (2 * i) script 0 0 ∙ rw (add-zero (2 * i))
+
+  step-is : (k : ℕ)
+      → after (i + 1) (take (q .written) out′) (take (3 * (i + 1)) ans′) (sentFrom k (senderOf (q .state)) (drop (q .read) bytes) (drop (2 * (i + 1)) script) (drop (q .written) out′) (drop (3 * (i + 1)) ans′))
+      ≡ after i (take (p .written) out) (take (3 * i) ans) (sentFrom (suc k) (senderOf (p .state)) (drop (p .read) bytes) (drop (2 * i) script) (drop (p .written) out) (drop (3 * i) ans))
+  unfolding sentFrom
+  step-is k =
+      rw (step .front, step .rest, answered, unanswered, unrun, step .state, step .left, first-of, getD-drop (2 * i) script 1 0)
+      (sym (after-after i 1 (take (p .written) out) (gives .part) (take (3 * i) ans) (reply gives) _))
+
+  -- m calls were left
+  pub send-step : (k m : ℕ) → m ≡ suc k
+      → after (i + 1) (take (q .written) out′) (take (3 * (i + 1)) ans′) (sentFrom k (senderOf (q .state)) (drop (q .read) bytes) (drop (2 * (i + 1)) script) (drop (q .written) out′) (drop (3 * (i + 1)) ans′))
+      ≡ after i (take (p .written) out) (take (3 * i) ans) (sentFrom m (senderOf (p .state)) (drop (p .read) bytes) (drop (2 * i) script) (drop (p .written) out) (drop (3 * i) ans))
+  send-step k m e = rw e (step-is k)
+
+-- the last of j calls
+pub send-end : (i j : ℕ) → i ≡ j → (s : Sender) (bytes script : List ℕ) (out : List Float) (ans : List ℕ) (w a : ℕ)
+    → after i (take w out) (take a ans) (sentFrom (j - i) s bytes script (drop w out) (drop a ans)) ≡ ran j out ans
+unfolding sentFrom
+send-end i j is s bytes script out ans w a =
+    let z : j - i ≡ 0 = omega arith in
+    rw (z, add-zero i, take-append-drop w out, take-append-drop a ans, is)
+
+-- ---- the rate, as `new` judges it
+module _ (rate : ℕ) (role : Role) (s : Sender) where
+  pub rate-accepted : made (given tt) s ≡ newOf rate role → (rateRefused rate ≡ false) × (s ≡ freshSender rate role)
+  unfolding newOf
+  rate-accepted e = accepted-only (λ (m : Made). m .answer) (λ (m : Made). m .state) _ _ _ (rateRefused rate) refl refl e
+
+  pub rate-refused : (k : ℕ) → made (refused k) s ≡ newOf rate role → rateRefused rate ≡ true
+  unfolding newOf
+  rate-refused k e = refused-only (λ (m : Made). m .answer) k _ _ _ (rateRefused rate) refl refl e

@@ -1,0 +1,51 @@
+use lib.ListN.{length-set}
+use native.Mathlib.Omega.{arith}
+use Rattle.calls.proofs.Steps.{set-three}
+use borrow.Author.Needs.{needs}
+use Rattle.calls.proofs.send.tell_sent.Statement.{statement}
+use Rattle.calls.proofs.send.tell_sent.Tie as tie
+
+mul-answers : tie.Need-mul-answers
+mul-answers c = search needs
+
+slice-write-answers : tie.Need-slice-write-answers
+slice-write-answers c = search needs
+
+add-answers : tie.Need-add-answers
+add-answers c = search needs
+
+mul-answers-2 : tie.Need-mul-answers-2
+mul-answers-2 c = search needs
+
+slice-write-answers-2 : tie.Need-slice-write-answers-2
+slice-write-answers-2 c = rw (length-set) (omega arith)
+
+add-answers-2 : tie.Need-add-answers-2
+add-answers-2 c = search needs
+
+mul-answers-3 : tie.Need-mul-answers-3
+mul-answers-3 c = search needs
+
+slice-write-answers-3 : tie.Need-slice-write-answers-3
+slice-write-answers-3 c = rw (length-set, length-set) (omega arith)
+
+same-length : tie.Need-same-length
+same-length c = search needs
+
+returns : tie.Need-returns
+returns c = set-three _ _ _ _ _ (c .pre)
+
+pub tell-sent-spec : {M : Type 1} → statement M
+tell-sent-spec =
+    tie.close
+    (tie.spec
+    mul-answers
+    slice-write-answers
+    add-answers
+    mul-answers-2
+    slice-write-answers-2
+    add-answers-2
+    mul-answers-3
+    slice-write-answers-3
+    same-length
+    returns)

@@ -1,3 +1,0 @@
--- Laws that more than one proof of `command` cites.
-pub mod Digits
-pub mod Roles

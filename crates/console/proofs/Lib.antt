@@ -1,0 +1,5 @@
+-- Laws that the proofs of the functions cite: numbers and roles of words, blocks of text, a level's sign.
+pub mod Digits
+pub mod Roles
+pub mod Blocks
+pub mod Levels

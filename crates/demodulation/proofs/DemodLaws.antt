@@ -1,0 +1,293 @@
+-- What is heard in a list of samples: one list after another, one sample at a time, how many bytes and events, and what stays true of the
+-- state. Assumes nothing.
+use Prim.Native.Nat.{ℕ, _+_, _*_, _^_, _<_, _≤_}
+use mathlib.Core.Path.{_≡_, refl, sym, ap, _∙_}
+use mathlib.Core.Bool.{Bool, true, false}
+use mathlib.Core.List.{List, [], _∷_, _++_, append-assoc, append-nil}
+use native.Mathlib.Numerals.{add-one}
+use native.Mathlib.Omega.{arith}
+use borrow.Author.Tests.{ltb-true, ltb-false}
+use lib.Bits.{or-lt}
+use lib.Dec.{ltb, ltb→lt}
+use lib.Ieee.{Float}
+use lib.ListN.{length, length-append, getD, drop, drop-of-length-le}
+use lib.Seq.{drop-cons}
+use Rattle.numeric.specs.F64.{_≤ᶠ_, zero64}
+use Rattle.numeric.specs.If.{if_then_else_}
+use Rattle.numeric.proofs.Tested.{at-number}
+use Rattle.framing.specs.Frame.{withBit, idleBit, dataBit, stopBit, badStop, pushBit, bytesOf, heard, after}
+use Rattle.framing.proofs.FrameLaws.{push-idle, push-data, push-stop}
+use Rattle.framing.specs.Framing.{AreBytes, held}
+use Rattle.framing.proofs.FramingLaws.{heard-append, after-append, heard-few, heard-few-any}
+use Rattle.demodulation.specs.Demod.{Step, eventOf, fedCore, fed, finished, decoded, stepOf, freshDemodulator, before, hearing, reported, Tuned}
+use Rattle.demodulation.specs.Correlation.{places, multiplied, advanced}
+use Rattle.demodulation.specs.Timing.{sliced}
+use Rattle.demodulation.specs.Demod.{eventsOf}
+use Rattle.bell103.specs.declared.Role.{Role}
+use Rattle.framing.specs.declared.frame.Deframer.{Deframer}
+use Rattle.framing.specs.declared.frame.Heard.the-variants.{Waiting}
+use Rattle.framing.specs.declared.frame.Pushed.{Pushed}
+use Rattle.demodulation.specs.declared.correlator.Correlator.{Correlator}
+use Rattle.demodulation.specs.declared.demod.Event.{Event}
+use Rattle.demodulation.specs.declared.demod.Event.the-variants.{Nothing, CarrierUp, CarrierDown}
+use Rattle.demodulation.specs.declared.demod.Demodulator.{Demodulator}
+use Rattle.demodulation.specs.Demod.{Sliced, lastOf, joined}
+
+-- ---- one step
+module _ (d : Demodulator) (s : Float) where
+  -- "nothing more until 27 samples are in"
+  pub step-waits : fedCore (d .core) s .corr .filled ≡ false → stepOf d s ≡ record { state = fed d s; heard = Waiting; event = Nothing }
+  unfolding stepOf
+  step-waits h = ap (λ (f : Bool). if f then decoded (fed d s) else record { state = fed d s; heard = Waiting; event = Nothing }) h
+
+  pub step-decodes : fedCore (d .core) s .corr .filled ≡ true → stepOf d s ≡ decoded (fed d s)
+  unfolding stepOf
+  step-decodes h = ap (λ (f : Bool). if f then decoded (fed d s) else record { state = fed d s; heard = Waiting; event = Nothing }) h
+
+  -- what holds of either holds of the step
+  by-cases : (P : Step → Type 0) → P (record { state = fed d s; heard = Waiting; event = Nothing }) → P (decoded (fed d s)) → P (stepOf d s)
+  unfolding stepOf
+  by-cases P w g = go (fed d s .core .corr .filled)
+    where
+      go : (f : Bool) → P (if f then decoded (fed d s) else record { state = fed d s; heard = Waiting; event = Nothing })
+      go true = g
+      go false = w
+
+  -- the place and the phases move by one sample, whatever else happens
+  pub corr-after : stepOf d s .state .core .corr ≡ advanced (d .core .corr)
+  unfolding fedCore finished
+  corr-after = by-cases (λ x. x .state .core .corr ≡ advanced (d .core .corr)) refl refl
+
+  -- each ring has the sample's product at that place
+  pub rings-after : stepOf d s .state .rings ≡ multiplied (d .rings) (d .core .corr) s
+  unfolding fedCore finished
+  rings-after = by-cases (λ x. x .state .rings ≡ multiplied (d .rings) (d .core .corr) s) refl refl
+
+no-bits : (d : Deframer) (n : ℕ) → Sliced d d [] n
+unfolding heard after
+no-bits d n = record { bits = []; few = omega arith; left = refl; yields = refl }
+
+one-bit : (d : Deframer) (bit : Bool) → Sliced d (pushBit d bit .state) (bytesOf (pushBit d bit .heard)) 1
+unfolding heard after
+one-bit d bit = record { bits = bit ∷ []; few = omega arith; left = refl; yields = append-nil (bytesOf (pushBit d bit .heard)) }
+
+slice-bits : (d : Deframer) (boundary up : Bool) (soft : Float) → Sliced d (sliced d boundary up soft .state) (bytesOf (sliced d boundary up soft .heard)) 1
+unfolding sliced
+slice-bits d true true soft = one-bit d (zero64 ≤ᶠ soft)
+slice-bits d true false soft = no-bits d 1
+slice-bits d false up soft = no-bits d 1
+
+-- "At most one boundary a sample", so at most one bit
+pub step-bits : (d : Demodulator) (s : Float) → Sliced (d .core .deframer) (stepOf d s .state .core .deframer) (bytesOf (stepOf d s .heard)) 1
+unfolding fedCore finished
+step-bits d s =
+    by-cases d s (λ x. Sliced (d .core .deframer) (x .state .core .deframer) (bytesOf (x .heard)) 1)
+    (no-bits (d .core .deframer) 1)
+    (slice-bits (d .core .deframer) _ _ _)
+
+-- of so many samples at most so many bits
+pub hearing-bits : (d : Demodulator) (ss : List Float) → Sliced (d .core .deframer) (hearing d ss .after .core .deframer) (hearing d ss .bytes) (length ss)
+unfolding hearing
+hearing-bits d [] = no-bits (d .core .deframer) 0
+hearing-bits d (s ∷ ss) =
+    let x = step-bits d s in
+    let y = hearing-bits (stepOf d s .state) ss in
+    record {
+      bits = x .bits ++ y .bits;
+      few = rw (length-append (x .bits) (y .bits)) (omega arith);
+      left = after-append (d .core .deframer) (x .bits) (y .bits) ∙ rw (x .left) (y .left);
+      yields = heard-append (d .core .deframer) (x .bits) (y .bits) ∙ rw (x .left, x .yields, y .yields);
+    }
+
+-- ten bits make a byte: ten for each byte heard are at most the bits held before and the samples
+pub hearing-few : (d : Demodulator) (ss : List Float)
+    → 10 * length (hearing d ss .bytes) + held (hearing d ss .after .core .deframer) ≤ held (d .core .deframer) + length ss
+hearing-few d ss =
+    let x = hearing-bits d ss in
+    let h = heard-few (d .core .deframer) (x .bits) in
+    let f = x .few in
+    rw (← x .left, ← x .yields) (omega arith)
+
+-- at most one byte a sample
+pub hearing-few-any : (d : Demodulator) (ss : List Float) → length (hearing d ss .bytes) ≤ length ss
+hearing-few-any d ss =
+    let x = hearing-bits d ss in
+    let h = heard-few-any (d .core .deframer) (x .bits) in
+    let f = x .few in
+    rw (← x .yields) (omega arith)
+
+-- ---- what a bit leaves true
+-- a deframer's error count grows by one at most, and its byte so far stays a byte, as each byte that it gives is
+record Kept (d : Deframer) (x : Pushed) : Type 0 where
+  errors : x .state .errors ≤ d .errors + 1
+  acc : x .state .acc < 256
+  bytes : AreBytes (bytesOf (x .heard))
+
+weight : (k : ℕ) → k < 8 → 2 ^ k < 256
+weight k h = ltb→lt (2 ^ k) 256 (at-number 8 (λ n. ltb (2 ^ n) 256) tt k h)
+
+with-byte : (acc k : ℕ) (bit : Bool) → acc < 256 → k < 8 → withBit acc k bit < 256
+with-byte acc k true h p = or-lt 8 acc (2 ^ k) h (weight k p)
+with-byte acc k false h p = h
+
+idle-kept : (d : Deframer) (bit : Bool) → d .acc < 256 → Kept d (idleBit d bit)
+unfolding idleBit
+idle-kept d true h = record { errors = omega arith; acc = h; bytes = tt }
+idle-kept d false h = record { errors = omega arith; acc = omega arith; bytes = tt }
+
+stop-kept : (d : Deframer) (bit : Bool) → d .acc < 256 → Kept d (stopBit d bit)
+unfolding stopBit badStop
+stop-kept d true h = record { errors = omega arith; acc = h; bytes = (h, tt) }
+stop-kept d false h = record { errors = omega arith; acc = h; bytes = tt }
+
+data-kept : (d : Deframer) (bit : Bool) → d .acc < 256 → d .«bit_count» < 8 → Kept d (dataBit d bit)
+unfolding dataBit
+data-kept d bit h p = record { errors = omega arith; acc = with-byte (d .acc) (d .«bit_count») bit h p; bytes = tt }
+
+push-kept : (d : Deframer) (bit : Bool) → d .acc < 256 → Kept d (pushBit d bit)
+push-kept d bit h = either (d .«in_frame») refl
+  where
+    within : d .«in_frame» ≡ true → (t : Bool) → ltb (d .«bit_count») 8 ≡ t → Kept d (pushBit d bit)
+    within e true t = rw (push-data d bit e (ltb-true _ _ t)) (data-kept d bit h (ltb-true _ _ t))
+    within e false t = rw (push-stop d bit e (ltb-false _ _ t)) (stop-kept d bit h)
+
+    either : (f : Bool) → d .«in_frame» ≡ f → Kept d (pushBit d bit)
+    either false e = rw (push-idle d bit e) (idle-kept d bit h)
+    either true e = within e (ltb (d .«bit_count») 8) refl
+
+bytes-append : (xs ys : List ℕ) → AreBytes xs → AreBytes ys → AreBytes (xs ++ ys)
+bytes-append [] ys p q = q
+bytes-append (x ∷ xs) ys p q = (p .0, bytes-append xs ys (p .1) q)
+
+-- along a list of bits
+after-errors : (d : Deframer) (bits : List Bool) → d .acc < 256 → after d bits .errors ≤ d .errors + length bits
+unfolding after
+after-errors d [] h = omega arith
+after-errors d (bit ∷ bits) h =
+    let k = push-kept d bit h in
+    omega (arith, k .errors, after-errors (pushBit d bit .state) bits (k .acc))
+
+after-acc : (d : Deframer) (bits : List Bool) → d .acc < 256 → after d bits .acc < 256
+unfolding after
+after-acc d [] h = h
+after-acc d (bit ∷ bits) h = after-acc (pushBit d bit .state) bits (push-kept d bit h .acc)
+
+heard-bytes : (d : Deframer) (bits : List Bool) → d .acc < 256 → AreBytes (heard d bits)
+unfolding heard
+heard-bytes d [] h = tt
+heard-bytes d (bit ∷ bits) h =
+    let k = push-kept d bit h in
+    bytes-append (bytesOf (pushBit d bit .heard)) (heard (pushBit d bit .state) bits) (k .bytes) (heard-bytes (pushBit d bit .state) bits (k .acc))
+
+-- ---- what a step leaves true
+next-place : (c : Correlator) → advanced c .pos < places
+unfolding advanced
+next-place c = go (ltb (c .pos + 1) places) refl
+  where
+    go : (t : Bool) → ltb (c .pos + 1) places ≡ t → (if t then c .pos + 1 else 0) < places
+    go true e = ltb-true (c .pos + 1) places e
+    go false e = omega arith
+
+pub fresh-tuned : (role : Role) → Tuned (freshDemodulator role)
+unfolding freshDemodulator
+fresh-tuned role = record { place = omega arith; byte = omega arith }
+
+pub step-tuned : (d : Demodulator) (s : Float) → Tuned d → Tuned (stepOf d s .state)
+step-tuned d s h =
+    record {
+      place = rw (corr-after d s) (next-place (d .core .corr));
+      byte = rw (← step-bits d s .left) (after-acc (d .core .deframer) (step-bits d s .bits) (h .byte));
+    }
+
+pub hearing-tuned : (d : Demodulator) (ss : List Float) → Tuned d → Tuned (hearing d ss .after)
+unfolding hearing
+hearing-tuned d [] h = h
+hearing-tuned d (s ∷ ss) h = hearing-tuned (stepOf d s .state) ss (step-tuned d s h)
+
+-- each byte heard is a byte
+pub hearing-bytes : (d : Demodulator) (ss : List Float) → Tuned d → AreBytes (hearing d ss .bytes)
+hearing-bytes d ss h = rw (← hearing-bits d ss .yields) (heard-bytes (d .core .deframer) (hearing-bits d ss .bits) (h .byte))
+
+-- at most one error a sample
+pub hearing-errors : (d : Demodulator) (ss : List Float) → Tuned d → hearing d ss .after .core .deframer .errors ≤ d .core .deframer .errors + length ss
+hearing-errors d ss h =
+    let x = hearing-bits d ss in
+    let e = after-errors (d .core .deframer) (x .bits) (h .byte) in
+    let f = x .few in
+    rw (← x .left) (omega arith)
+
+last-append : (was : Bool) (xs ys : List Bool) → lastOf was (xs ++ ys) ≡ lastOf (lastOf was xs) ys
+last-append was [] ys = refl
+last-append was (x ∷ xs) ys = last-append x xs ys
+
+reports : (was now : Bool) → now ≡ lastOf was (eventsOf (eventOf was now))
+reports true true = refl
+reports true false = refl
+reports false true = refl
+reports false false = refl
+
+few-events : (e : Event) → length (eventsOf e) ≤ 1
+few-events Nothing = omega arith
+few-events CarrierUp = omega arith
+few-events CarrierDown = omega arith
+
+step-reports : (d : Demodulator) (s : Float) → reported (stepOf d s .state) ≡ lastOf (reported d) (eventsOf (stepOf d s .event))
+unfolding fedCore finished
+step-reports d s =
+    by-cases d s (λ x. reported (x .state) ≡ lastOf (reported d) (eventsOf (x .event))) refl (reports (reported d) _)
+
+-- the report stands as the last event says, or as before
+pub hearing-reports : (d : Demodulator) (ss : List Float) → reported (hearing d ss .after) ≡ lastOf (reported d) (hearing d ss .events)
+unfolding hearing
+hearing-reports d [] = refl
+hearing-reports d (s ∷ ss) =
+    hearing-reports (stepOf d s .state) ss
+    ∙ ap (λ (b : Bool). lastOf b (hearing (stepOf d s .state) ss .events)) (step-reports d s)
+    ∙ sym (last-append (reported d) (eventsOf (stepOf d s .event)) (hearing (stepOf d s .state) ss .events))
+
+-- at most one event a sample
+pub hearing-events : (d : Demodulator) (ss : List Float) → length (hearing d ss .events) ≤ length ss
+unfolding hearing
+hearing-events d [] = omega arith
+hearing-events d (s ∷ ss) =
+    rw (length-append (eventsOf (stepOf d s .event)) (hearing (stepOf d s .state) ss .events))
+    (omega (arith, few-events (stepOf d s .event), hearing-events (stepOf d s .state) ss))
+
+-- ---- one list after another
+pub hearing-none : (d : Demodulator) → hearing d [] ≡ record { after = d; bytes = []; events = [] }
+unfolding hearing
+hearing-none d = refl
+
+pub hearing-first : (d : Demodulator) (s : Float) (ss : List Float) → hearing d (s ∷ ss) ≡ before (stepOf d s) (hearing (stepOf d s .state) ss)
+unfolding hearing
+hearing-first d s ss = refl
+
+pub hearing-append : (d : Demodulator) (xs ys : List Float) → hearing d (xs ++ ys) ≡ joined (hearing d xs) (hearing (hearing d xs .after) ys)
+unfolding hearing
+hearing-append d [] ys = refl
+hearing-append d (x ∷ xs) ys = ap (before (stepOf d x)) (hearing-append (stepOf d x .state) xs ys) ∙ simp append-assoc
+
+-- ---- for a loop over the samples: what is heard from place i on, after the sample at i and before it
+module _ (d : Demodulator) (ss : List Float) (i : ℕ) (z : Float) (h : i < length ss) where
+  pub hearing-turn : hearing d (drop i ss) ≡ before (stepOf d (getD ss i z)) (hearing (stepOf d (getD ss i z) .state) (drop (i + 1) ss))
+  unfolding hearing
+  hearing-turn = rw (add-one, drop-cons ss i z h)
+
+  pub after-turn : hearing (stepOf d (getD ss i z) .state) (drop (i + 1) ss) .after ≡ hearing d (drop i ss) .after
+  after-turn = rw hearing-turn
+
+  -- behind the bytes heard so far
+  pub bytes-turn : (so-far : List ℕ)
+      → (so-far ++ bytesOf (stepOf d (getD ss i z) .heard)) ++ hearing (stepOf d (getD ss i z) .state) (drop (i + 1) ss) .bytes
+      ≡ so-far ++ hearing d (drop i ss) .bytes
+  bytes-turn so-far = rw (hearing-turn, append-assoc)
+
+  -- behind the events so far
+  pub events-turn : (so-far : List Bool)
+      → (so-far ++ eventsOf (stepOf d (getD ss i z) .event)) ++ hearing (stepOf d (getD ss i z) .state) (drop (i + 1) ss) .events
+      ≡ so-far ++ hearing d (drop i ss) .events
+  events-turn so-far = rw (hearing-turn, append-assoc)
+
+-- the end of it
+pub hearing-end : (d : Demodulator) (ss : List Float) (i : ℕ) → length ss ≤ i → hearing d (drop i ss) ≡ record { after = d; bytes = []; events = [] }
+hearing-end d ss i h = rw (drop-of-length-le ss h) (hearing-none d)

@@ -1,0 +1,3 @@
+-- Laws that the proofs of the functions, and other crates, cite.
+pub mod FrameLaws
+pub mod FramingLaws

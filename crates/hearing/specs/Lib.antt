@@ -1,2 +1,0 @@
--- The definitions that the contracts of `hearing` cite.
-pub mod Hear

@@ -1,0 +1,2 @@
+-- The definitions that the contracts of `hexadecimal` cite.
+pub mod Hex

@@ -1,0 +1,64 @@
+-- From each part on the board hears what it hears from the start on. Assumes nothing.
+use native.Mathlib.Omega.{arith}
+use mathlib.Core.Path.{_≡_, refl, ap, _∙_}
+use Rattle.listen_app.specs.Listener.{Listener, listenerOf, heardBytes}
+use Rattle.listen_app.proofs.Hearing.{parts-end}
+use Rattle.listen_app.specs.BlockReader.{BlockReaderSound}
+use Rattle.board.specs.BoardRep.{BoardSound}
+use borrow.Author.Needs.{needs}
+use lib.ListN.{length, drop}
+use Prim.Native.Nat.{_≤_, _-_}
+use Rattle.listen_app.proofs.session.hear_part.Statement.{statement}
+use Rattle.listen_app.proofs.session.hear_part.Tie as tie
+
+abbrev Inv-loop : tie.InvT-loop
+Inv-loop input station role numbered₀ reader₀ at₀ numbered reader at =
+    BoardSound (numbered .board) × BlockReaderSound reader × (at ≤ length input)
+    × (heardBytes station role (listenerOf numbered reader) (drop at input) ≡ heardBytes station role (listenerOf numbered₀ reader₀) (drop at₀ input))
+
+abbrev μ-loop : tie.MeasureT-loop
+μ-loop input station role numbered₀ reader₀ at₀ numbered reader at = length input - at
+
+loop-holds : tie.Need-loop-holds Inv-loop μ-loop
+loop-holds c =
+    let p = c .before .before .before .pre in
+    (p .board, p .reader, omega arith, refl)
+
+hear-requires : tie.Need-hear-requires Inv-loop μ-loop
+hear-requires c κs = search needs
+
+act-on-requires : tie.Need-act-on-requires Inv-loop μ-loop
+act-on-requires c κs = search needs
+
+loop-less : tie.Need-loop-less Inv-loop μ-loop
+loop-less c = omega (arith, c .before .before .hear .ensures .on, c .before .before .hear .ensures .within)
+
+loop-again : tie.Need-loop-again Inv-loop μ-loop
+loop-again c =
+    let l = c .before .before .before .before in
+    let h = c .before .before .hear in
+    let a = l .before .before .before .before .args in (
+      c .act-on .ensures .0,
+      h .ensures .sound,
+      h .ensures .within,
+      ap (λ (m : Listener). heardBytes (a .station) (a .role) m (drop (h .result .at) (a .input .now))) (c .act-on .ensures .1)
+          ∙ (h .ensures .same (a .station) (a .role) _ _ ∙ l .loop .inv .3),
+    )
+
+returns : tie.Need-returns Inv-loop μ-loop
+returns c =
+    let l = c .before .loop .inv in
+    (record { board = l .0; reader = l .1 }, parts-end _ _ _ _ _ _ (l .2) (c .loop-test .left) (l .3))
+
+pub hear-part-spec : {M : Type 1} → statement M
+hear-part-spec =
+    tie.close
+    (tie.spec
+    Inv-loop
+    μ-loop
+    loop-holds
+    hear-requires
+    act-on-requires
+    loop-less
+    loop-again
+    returns)

@@ -1,0 +1,5 @@
+-- The definitions that the contracts of `listen_app` cite.
+pub mod Words
+pub mod BlockReader
+pub mod Listener
+pub mod Session

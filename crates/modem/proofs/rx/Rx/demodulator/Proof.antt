@@ -1,0 +1,12 @@
+-- `Rx::demodulator` meets its contract: a sound state has a tuned one. Assumes nothing.
+use mathlib.Core.Path.{refl}
+use Rattle.modem.specs.RxRep.{receiverOf}
+use Rattle.modem.proofs.rx.Rx.demodulator.Statement.{statement}
+use Rattle.modem.proofs.rx.Rx.demodulator.Tie as tie
+
+returns : tie.Need-returns
+unfolding receiverOf
+returns c = (refl, c .before .pre .tuned)
+
+pub demodulator-spec : {M : Type 1} → statement M
+demodulator-spec = tie.close (tie.spec returns)

@@ -1,0 +1,84 @@
+// What a caller queues for the sender: bytes, and bit periods of idle mark.
+use crate::bits::bits_refused;
+use crate::bits::frames_refused;
+use crate::bits::push_frames;
+use crate::bits::push_marks;
+use crate::tx::Tx;
+use refusal::Acceptance;
+use refusal::Refusal;
+ghost use mathlib.Core.Path.{_≡_};
+ghost use Rattle.refusal.specs.Refusals.{refused, acceptanceOf};
+ghost use Rattle.modulation.specs.TxRep.{senderOf, TxSound};
+ghost use Rattle.modulation.specs.Queueing.{queueing, writeOf, idleMarkOf, withBits};
+
+// The answer, and the sender after it.
+pub struct Queueing {
+    pub answer: Acceptance,
+    pub state: Tx,
+}
+
+impl Tx {
+    // Queues the frames of these bytes, unless refused 33.
+    pub fn write(self, data: &[u8]) -> Queueing
+        requires { ⌜ TxSound self ⌝ }
+        ensures { λ r. ⌜ queueing (acceptanceOf (r .answer)) (senderOf (r .state)) ≡ writeOf (senderOf self) (now («data» .entry)) ⌝ }
+        ensures { λ r. ⌜ TxSound (r .state) ⌝ }
+    {
+        let wave = self.wave;
+        let head = wave.head;
+        let waiting = wave.waiting;
+        if frames_refused(waiting, data.len()) {
+            return self.refuse_bits();
+        }
+        let mut bits = self.bits;
+        let framed = push_frames(&mut bits, head, waiting, data);
+        let state = self.with_bits(bits, framed);
+        Queueing {
+            answer: Acceptance::Accepted,
+            state,
+        }
+    }
+
+    // Queues n bit periods of idle mark, unless refused 33: what is queued next can't start before they are over.
+    pub fn write_idle_mark(self, n: usize) -> Queueing
+        requires { ⌜ TxSound self ⌝ }
+        ensures { λ r. ⌜ queueing (acceptanceOf (r .answer)) (senderOf (r .state)) ≡ idleMarkOf (senderOf self) n ⌝ }
+        ensures { λ r. ⌜ TxSound (r .state) ⌝ }
+    {
+        let wave = self.wave;
+        let head = wave.head;
+        let waiting = wave.waiting;
+        if bits_refused(waiting, n) {
+            return self.refuse_bits();
+        }
+        let mut bits = self.bits;
+        let idle = push_marks(&mut bits, head, waiting, n);
+        let state = self.with_bits(bits, idle);
+        Queueing {
+            answer: Acceptance::Accepted,
+            state,
+        }
+    }
+
+    // Refused 33: nothing changes.
+    fn refuse_bits(self) -> Queueing
+        ensures { λ r. ⌜ (acceptanceOf (r .answer) ≡ refused 33) × (r .state ≡ self) ⌝ }
+    {
+        Queueing {
+            answer: Acceptance::Refused(Refusal::BitsWait),
+            state: self,
+        }
+    }
+
+    // The sender with this ring, in which so many bits wait.
+    fn with_bits(self, bits: [bool; 4096], waiting: usize) -> Tx
+        ensures { λ r. ⌜ r ≡ withBits self bits waiting ⌝ }
+    {
+        let mut wave = self.wave;
+        wave.waiting = waiting;
+        let mut state = self;
+        state.bits = bits;
+        state.wave = wave;
+        state
+    }
+}

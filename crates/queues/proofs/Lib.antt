@@ -1,2 +1,0 @@
--- Laws that more than one proof of `queues` cites.
-pub mod Moves

@@ -1,0 +1,83 @@
+-- Laws of the resampler's definitions, for those who call it. Assumes nothing.
+use Prim.Native.Nat.{ℕ, _+_, _*_, _/_, _<_, _≤_}
+use mathlib.Core.Path.{_≡_, refl, ap, _∙_}
+use mathlib.Core.Bool.{Bool, true, false}
+use mathlib.Core.List.{List, [], _++_}
+use native.Mathlib.Nat.{le-refl, mul-le-mul-left, mul-left-comm, add-mul, one-mul, div-lt-iff-lt-mul}
+use native.Mathlib.Omega.{arith}
+use borrow.Author.Tests.{le-ltb}
+use lib.Dec.{eqb}
+use lib.ListN.{length, drop}
+use lib.Ieee.{Float}
+use Rattle.numeric.specs.If.{if_then_else_}
+use Rattle.numeric.specs.Counts.{outputLen}
+use Rattle.refusal.specs.Refusals.{first, given}
+use Rattle.resampling.specs.Flow.{ran, fed}
+use Rattle.resampling.proofs.FlowLaws.{fed-length}
+use Rattle.resampling.specs.Resample.{State, filterOf, maxOutputLen, tooMany, refusalOf, ranOver, laid, outcome, processed}
+
+-- ---- nothing in, nothing out
+pub ran-none : (s : State) (room : ℕ) → ranOver s room [] ≡ ran [] (s .flow)
+unfolding ranOver fed
+ran-none s room = by (eqb (s .src) (s .dst))
+  where
+    by : (b : Bool) → (if b then ran [] (s .flow) else ran [] (s .flow)) ≡ ran [] (s .flow)
+    by true = refl
+    by false = refl
+
+-- ---- a call that no check refuses
+pub not-refused : (s : State) (n room : ℕ) → n ≤ 2048 → maxOutputLen (s .src) (s .dst) n ≤ room → refusalOf s n room ≡ 0
+unfolding refusalOf tooMany first
+not-refused s n room h l = rw (le-ltb _ _ h, le-ltb _ _ l)
+
+pub accepted : (s : State) (xs out : List Float) → length xs ≤ 2048 → maxOutputLen (s .src) (s .dst) (length xs) ≤ length out
+    → processed s xs out ≡ laid s out (ranOver s (length out) xs)
+unfolding processed
+accepted s xs out h l = rw (not-refused s (length xs) (length out) h l)
+
+-- ---- "Equal rates copy": the samples themselves, and nothing moves
+pub equal-rates : (s : State) (room : ℕ) (xs : List Float) → eqb (s .src) (s .dst) ≡ true → ranOver s room xs ≡ ran xs (s .flow)
+unfolding ranOver
+equal-rates s room xs e = rw e
+
+pub equal-rates-len : (src dst n : ℕ) → eqb src dst ≡ true → maxOutputLen src dst n ≡ n
+unfolding maxOutputLen
+equal-rates-len src dst n e = rw e
+
+-- a whole call of n samples into an output with room for them
+pub equal-rates-process : (s : State) (xs out : List Float) → eqb (s .src) (s .dst) ≡ true → length xs ≤ 2048 → length xs ≤ length out
+    → processed s xs out ≡ outcome (given (length xs)) s (xs ++ drop (length xs) out)
+equal-rates-process s xs out e h l =
+    let r = accepted s xs out h (rw (equal-rates-len (s .src) (s .dst) (length xs) e) l) in
+    r ∙ ap (laid s out) (equal-rates s (length out) xs e)
+
+-- ---- going down to 8,000, n samples make n + 2 at most
+pub output-few : (src n : ℕ) → 8000 ≤ src → maxOutputLen src 8000 n ≤ n + 2
+unfolding maxOutputLen
+output-few src n h = by (eqb src 8000)
+  where
+    less : (n p q : ℕ) → p / q < n + 1 → p / q ≤ n
+    less n p q l = omega arith
+
+    few : (2 * (n * 8000) + src) / (2 * src) ≤ n
+    few =
+        let a : n * 8000 ≤ n * src = mul-le-mul-left n h in
+        let b : (n + 1) * (2 * src) ≡ 2 * (n * src) + 2 * src = add-mul n 1 (2 * src) ∙ ap (λ (z : ℕ). z + 1 * (2 * src)) (mul-left-comm n 2 src) ∙ ap (λ (z : ℕ). 2 * (n * src) + z) (one-mul (2 * src)) in
+        less n (2 * (n * 8000) + src) (2 * src) (div-lt-iff-lt-mul (omega arith) .1 (omega arith))
+
+    by : (b : Bool) → (if b then n else outputLen n src 8000) ≤ n + 2
+    by true = omega arith
+    by false = omega (arith, few)
+
+-- what a call makes with the room that `max_output_len` gives
+pub ran-few : (s : State) (xs : List Float) → length (ranOver s (maxOutputLen (s .src) (s .dst) (length xs)) xs .out) ≤ maxOutputLen (s .src) (s .dst) (length xs)
+unfolding ranOver maxOutputLen
+ran-few s xs = by (eqb (s .src) (s .dst))
+  where
+    n : ℕ
+    n = outputLen (length xs) (s .src) (s .dst)
+
+    by : (b : Bool)
+        → length ((if b then ran xs (s .flow) else fed (filterOf (s .src) (s .dst)) (if b then length xs else n) xs (s .flow)) .out) ≤ (if b then length xs else n)
+    by true = le-refl _
+    by false = fed-length (filterOf (s .src) (s .dst)) n xs (s .flow)

@@ -1,3 +1,0 @@
--- The definitions that the contracts of `samples` cite.
-pub mod Samples
-pub mod Write

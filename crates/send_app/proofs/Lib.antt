@@ -1,0 +1,3 @@
+-- Laws that the proofs of the functions cite.
+mod Asking
+pub mod CallLaws

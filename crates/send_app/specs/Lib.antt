@@ -1,0 +1,4 @@
+-- The definitions that the contracts of `send_app` cite.
+pub mod Words
+pub mod Header
+pub mod Call

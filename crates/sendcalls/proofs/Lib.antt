@@ -1,3 +1,0 @@
--- Laws for the proofs of `sendcalls`.
-pub mod ByKind
-pub mod Steps

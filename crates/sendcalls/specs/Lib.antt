@@ -1,3 +1,0 @@
--- What a list of calls of the sender leaves.
-pub mod Send
-pub mod SendSteps

@@ -1,2 +1,0 @@
-// Lists of calls of the sender.
-pub mod send;

@@ -1,2 +1,0 @@
--- Laws that the proofs of `sendtext` share.
-mod Asking

@@ -1,0 +1,157 @@
+-- What a line's judgement goes by: a line for readers from 1 on, whoever wrote it, on station, stamp, age and level alone; one for newer
+-- readers gets 17. And a line that passes 11 to 16 is one that some writer writes. Assumes nothing.
+use Prim.Native.Nat.{ℕ, zero, suc, _-_, _%_, _≤_, _<_}
+use mathlib.Core.Path.{_≡_, refl, sym, _∙_}
+use mathlib.Core.Logic.{inl, inr}
+use mathlib.Core.Bool.{Bool, true, false, not, _&&_, _||_}
+use mathlib.Core.List.{List}
+use lib.Dec.{ltb, eqb}
+use lib.ListN.{length, getD}
+use native.Mathlib.Omega.{arith}
+use borrow.Author.Tests.{ltb-false, eqb-true, eqb-false, lt-ltb, le-ltb, eq-eqb, ne-eqb}
+use Rattle.refusal.specs.Refusals.{first}
+use Rattle.hexadecimal.specs.Hex.{allHex, unhex, hexLine, total}
+use Rattle.tide.specs.Frame.{versionOf, readerOf, saidLength, stationOf, stampOf, ageOf, levelOf, signed, waterOf, Intact, Writer, Rules, bitsOf, frameOf, lineBy}
+use Rattle.tide.specs.Judge.{Shown, ofFields, ofFrame, ofLine, Passes, Passed, settle, judge}
+use Rattle.hexadecimal.proofs.HexLaws.{unhex-hexLine, allHex-hexLine, length-hexLine, length-unhex, unhex-bytes, hexLine-unhex}
+use Rattle.tide.proofs.FrameLaws.{says-station, says-stamp, says-age, says-level, signed-bits, frame-intact, written}
+
+-- ---- an intact line's number goes by its least reader and its fields alone
+first-one : (t u : Bool) (n : ℕ) → (t && not u) ≡ false → first (t && not u) 16 n ≡ n
+unfolding first
+first-one t u n e = rw e refl
+
+one-by : (t : Bool) (a b : ℕ) → eqb a 1 ≡ t → (a ≡ 1 → b ≡ 13) → (t && not (eqb b 13)) ≡ false
+one-by true a b e h = rw (eq-eqb b 13 (h (eqb-true a 1 e))) refl
+one-by false a b e h = refl
+
+pub intact-number : (mine : ℕ) (f : List ℕ) → Intact f
+    → ofLine mine (hexLine f) false ≡ first (ltb 1 (readerOf f)) 17 (ofFields mine (stationOf f) (stampOf f) (ageOf f) (levelOf f))
+unfolding ofLine ofFrame first
+intact-number mine f i =
+    let l = length-hexLine f in
+    let a : 26 ≤ length (hexLine f) = omega arith in
+    let o : length (hexLine f) ≤ 64 = omega arith in
+    let b : length (hexLine f) % 2 ≡ 1 → ⊥ = λ e. omega arith in
+    let v : getD f 0 0 ≡ 0 → ⊥ = λ e. omega arith in
+    let r : getD f 1 0 ≡ 0 → ⊥ = λ e. omega arith in
+    rw (
+      le-ltb 64 (length (hexLine f)) o,
+      le-ltb (length (hexLine f)) 26 a,
+      ne-eqb (length (hexLine f) % 2) 1 b,
+      allHex-hexLine f (i .bytes),
+      unhex-hexLine f (i .bytes),
+      eq-eqb (getD f 2 0) (length f) (i .says),
+      eq-eqb (total f % 256) 0 (i .sums),
+      ne-eqb (getD f 0 0) 0 v,
+      ne-eqb (getD f 1 0) 0 r,
+      le-ltb (getD f 0 0) (getD f 1 0) (i .able),
+    )
+    (first-one (eqb (getD f 0 0) 1) (eqb (length f) 13) _ (one-by _ (getD f 0 0) (length f) refl (i .first)))
+
+-- "F = 1 keeps all twelve": an intact line for readers from 1 on is judged on its four fields, whatever its later bytes
+pub judge-fields : (mine : ℕ) (r : Shown) (f : List ℕ) → Intact f → readerOf f ≡ 1
+    → judge mine r (hexLine f) false
+    ≡ settle (ofFields mine (stationOf f) (stampOf f) (ageOf f) (levelOf f)) r (stampOf f - ageOf f) (signed (levelOf f))
+unfolding judge waterOf first
+judge-fields mine r f i e =
+    let h : getD f 1 0 ≤ 1 = omega arith in
+    rw (intact-number mine f i, unhex-hexLine f (i .bytes), le-ltb 1 (getD f 1 0) h) refl
+
+-- "one for newer readers has F > 1, and where it is intact it gets 17"; what stands still stands
+pub judge-newer : (mine : ℕ) (r : Shown) (f : List ℕ) → Intact f → 1 < readerOf f → judge mine r (hexLine f) false ≡ record { answer = 17; reading = r }
+unfolding judge settle first
+judge-newer mine r f i h = rw (intact-number mine f i, lt-ltb 1 (getD f 1 0) h) refl
+
+-- ---- the writer's side
+-- a line that a writer of any version 1 to 255 writes for readers from 1 on, whatever it appended, is judged on the writer's station,
+-- stamp, age and level
+pub fields : (w : Writer) → Rules w → (mine : ℕ) (r : Shown) → w .reader ≡ 1
+    → judge mine r (lineBy w) false
+    ≡ settle (ofFields mine (w .station) (w .stamp) (w .age) (bitsOf (w .level))) r (w .stamp - w .age) (w .level)
+unfolding lineBy
+fields w k mine r e =
+    judge-fields mine r (frameOf w) (frame-intact w k) (unfold frameOf in e)
+    ∙ rw (says-station w k, says-stamp w k, says-age w k, says-level w k, signed-bits (w .level) (k .level)) refl
+
+-- a line that a writer writes for newer readers
+pub fields-newer : (w : Writer) → Rules w → (mine : ℕ) (r : Shown) → 1 < w .reader → judge mine r (lineBy w) false ≡ record { answer = 17; reading = r }
+unfolding lineBy
+fields-newer w k mine r h = judge-newer mine r (frameOf w) (frame-intact w k) (unfold frameOf in h)
+
+-- two such lines alike in the four are judged alike
+pub fields-alike : (v w : Writer) → Rules v → Rules w → v .reader ≡ 1 → w .reader ≡ 1
+    → v .station ≡ w .station → v .stamp ≡ w .stamp → v .age ≡ w .age → v .level ≡ w .level
+    → (mine : ℕ) (r : Shown) → judge mine r (lineBy v) false ≡ judge mine r (lineBy w) false
+fields-alike v w i j e h s t a l mine r = rw (fields v i mine r e, fields w j mine r h, s, t, a, l) refl
+
+first-passes : (t : Bool) (k n : ℕ) → 1 ≤ k → k ≤ 16 → Passes (first t k n) → (t ≡ false) × Passes n
+unfolding first
+first-passes true k n p q (inl e) = absurd (omega arith)
+first-passes true k n p q (inr h) = absurd (omega arith)
+first-passes false k n p q h = (refl, h)
+
+pub or-false : (a b : Bool) → (a || b) ≡ false → (a ≡ false) × (b ≡ false)
+or-false true b e = absurd (let y : _≡_ {A = ℕ} 0 1 = cc in omega arith)
+or-false false b e = (refl, e)
+
+pub not-false : (a : Bool) → not a ≡ false → a ≡ true
+not-false true e = refl
+not-false false e = sym e
+
+and-not : (t : Bool) (a b : ℕ) → eqb a 1 ≡ t → (t && not (eqb b 13)) ≡ false → a ≡ 1 → b ≡ 13
+and-not true a b e f h = eqb-true b 13 (not-false (eqb b 13) f)
+and-not false a b e f h = absurd (eqb-false a 1 e h)
+
+pub passed : (mine : ℕ) (l : List ℕ) (more : Bool) → Passes (ofLine mine l more) → Passed l more
+unfolding ofLine ofFrame
+passed mine l more p =
+    let a = first-passes _ 11 _ (omega arith) (omega arith) p in
+    let b = first-passes _ 12 _ (omega arith) (omega arith) (a .1) in
+    let c = first-passes _ 13 _ (omega arith) (omega arith) (b .1) in
+    let d = first-passes _ 14 _ (omega arith) (omega arith) (c .1) in
+    let e = first-passes _ 15 _ (omega arith) (omega arith) (d .1) in
+    let g = first-passes _ 16 _ (omega arith) (omega arith) (e .1) in
+    let f = unhex l in
+    let o = or-false more _ (a .0) in
+    let most = ltb-false 64 (length l) (o .1) in
+    let q = or-false _ _ (b .0) in
+    let long = ltb-false (length l) 26 (q .0) in
+    let even = eqb-false (length l % 2) 1 (q .1) in
+    let two : length l % 2 ≡ 0 = by (length l % 2) even (omega arith) in
+    let n = length-unhex l in
+    let hexes = not-false (allHex l) (c .0) in
+    let s = or-false (eqb (versionOf f) 0 || eqb (readerOf f) 0 || ltb (versionOf f) (readerOf f)) _ (g .0) in
+    let t = or-false (eqb (versionOf f) 0 || eqb (readerOf f) 0) _ (s .0) in
+    let u = or-false (eqb (versionOf f) 0) _ (t .0) in
+    record {
+      whole = o .0;
+      frame =
+          record {
+            bytes = unhex-bytes l hexes;
+            least = omega arith;
+            most = omega arith;
+            says = eqb-true (saidLength f) (length f) (not-false _ (d .0));
+            sums = eqb-true (total f % 256) 0 (not-false _ (e .0));
+            version = over (versionOf f) (eqb-false (versionOf f) 0 (u .0));
+            reader = over (readerOf f) (eqb-false (readerOf f) 0 (u .1));
+            able = ltb-false (versionOf f) (readerOf f) (t .1);
+            first = and-not _ (versionOf f) (length f) refl (s .1);
+          };
+      line = hexLine-unhex l hexes two;
+    }
+  where
+    by : (k : ℕ) → (k ≡ 1 → ⊥) → k < 2 → k ≡ 0
+    by zero p q = refl
+    by (suc k) p q = absurd (p (omega arith))
+
+    over : (k : ℕ) → (k ≡ 0 → ⊥) → 1 ≤ k
+    over k p = omega arith
+
+pub some-writer : (mine : ℕ) (l : List ℕ) (more : Bool) → Passes (ofLine mine l more)
+    → (w : Writer) × Rules w × (lineBy w ≡ l) × (more ≡ false)
+unfolding lineBy
+some-writer mine l more p =
+    let k = passed mine l more p in
+    let w = written (unhex l) (k .frame) in
+    (w .0, w .1, rw (w .2) (k .line), k .whole)

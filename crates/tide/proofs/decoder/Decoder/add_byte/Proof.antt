@@ -1,0 +1,20 @@
+-- The test picks the arm. Assumes nothing.
+use borrow.Author.Needs.{needs}
+use Rattle.tide.proofs.decoder.Decoder.add_byte.Statement.{statement}
+use Rattle.tide.proofs.decoder.Decoder.add_byte.Tie as tie
+
+end-line-requires : tie.Need-end-line-requires
+end-line-requires c κs = search needs
+
+returns : tie.Need-returns
+returns c =
+    rw (c .before .if1 .taken) (c .end-line .ensures)
+
+grow-requires : tie.Need-grow-requires
+grow-requires c κs = search needs
+
+returns-2 : tie.Need-returns-2
+returns-2 c = search needs
+
+pub add-byte-spec : {M : Type 1} → statement M
+add-byte-spec = tie.close (tie.spec end-line-requires returns grow-requires returns-2)

@@ -1,0 +1,178 @@
+-- The decoder: bytes collected into lines, the lines judged, and their answers counted; and what is claimed of many lines. Assumes nothing.
+use Prim.Native.Nat.{ℕ, _+_, _-_, _≤_, _<_}
+use mathlib.Core.Path.{_≡_}
+use mathlib.Core.Logic.{_⊎_, _↔_}
+use mathlib.Core.Bool.{Bool, true, false, _&&_, not}
+use mathlib.Core.List.{List, [], _∷_, _++_}
+use lib.Dec.{ltb, leb, eqb}
+use lib.IntN.{ℤ}
+use lib.ListN.{length, getD, set, replicate}
+use Rattle.numeric.specs.If.{if_then_else_}
+use Rattle.hexadecimal.specs.Hex.{unhex, total}
+use Rattle.tide.specs.Frame.{levelOf, signed, waterOf, Writer, Rules, lineBy}
+use Rattle.tide.specs.Judge.{Shown, none, shows, Verdict, judge, ofLine, Passes}
+use Rattle.refusal.specs.Refusals.{first}
+
+-- "the unended line (its first 64 characters and whether there were more)"
+pub record Line : Type 0 where
+  pub chars : List ℕ
+  pub more : Bool
+
+abbrev pub emptyLine : Line
+emptyLine = record { chars = []; more = false }
+
+-- the part of the plain board that bytes change: "station, .. the unended line, reading or none, one count for each line answer"
+pub record Decoder : Type 0 where
+  pub station : ℕ
+  pub line : Line
+  pub reading : Shown
+  pub counts : List ℕ
+
+-- "A fresh one .. has an empty line, no reading and all counts 0"
+unfoldable pub freshDecoder : ℕ → Decoder
+freshDecoder station = record { station = station; line = emptyLine; reading = none; counts = replicate 12 0 }
+
+-- the answers that a line can get
+abbrev pub IsAnswer : ℕ → Type 0
+IsAnswer n = (n ≡ 0) ⊎ (((11 ≤ n) × (n ≤ 20)) ⊎ (n ≡ 34))
+
+-- which count an answer has: 0 (shown) the first, then 11 to 20, then 34; a number that is no answer has none
+unfoldable pub place : ℕ → ℕ
+place n = if eqb n 0 then 0 else (if eqb n 34 then 11 else (if leb 11 n && leb n 20 then n - 10 else 12))
+
+-- the count of an answer, and 0 for a number that is none
+abbrev pub countOf : Decoder → ℕ → ℕ
+countOf d n = getD (d .counts) (place n) 0
+
+-- "add one to their count"
+unfoldable pub bump : List ℕ → ℕ → List ℕ
+bump cs n = set cs (place n) (getD cs (place n) 0 + 1)
+
+-- the judgement of the unended line
+unfoldable pub verdict : Decoder → Verdict
+verdict d = judge (d .station) (d .reading) (d .line .chars) (d .line .more)
+
+-- "At 0A the line is judged and emptied"
+unfoldable pub ended : Decoder → Decoder
+ended d =
+    record {
+      station = d .station;
+      line = emptyLine;
+      reading = verdict d .reading;
+      counts = bump (d .counts) (verdict d .answer);
+    }
+
+-- a character more; after 64, only that there were more
+unfoldable pub longer : Line → ℕ → Line
+longer l c =
+    if ltb (length (l .chars)) 64
+    then record { chars = l .chars ++ c ∷ []; more = l .more }
+    else record { chars = l .chars; more = true }
+
+unfoldable pub grown : Decoder → ℕ → Decoder
+grown d c = record { station = d .station; line = longer (d .line) c; reading = d .reading; counts = d .counts }
+
+-- "adds each byte to the line": 0A (10) ends it
+unfoldable pub addByte : Decoder → ℕ → Decoder
+addByte d c = if eqb c 10 then ended d else grown d c
+
+unfoldable pub addBytes : Decoder → List ℕ → Decoder
+addBytes d [] = d
+addBytes d (c ∷ cs) = addBytes (addByte d c) cs
+
+-- the lines that bytes end, in order
+unfoldable pub linesIn : Decoder → List ℕ → List Line
+linesIn d [] = []
+linesIn d (c ∷ cs) = (if eqb c 10 then d .line ∷ [] else []) ++ linesIn (addByte d c) cs
+
+-- the answers that those lines get, in order
+unfoldable pub verdictsIn : Decoder → List ℕ → List ℕ
+verdictsIn d [] = []
+verdictsIn d (c ∷ cs) = (if eqb c 10 then verdict d .answer ∷ [] else []) ++ verdictsIn (addByte d c) cs
+
+-- the last of a list, `other` where it has none
+unfoldable pub lastOf : ℕ → List ℕ → ℕ
+lastOf other [] = other
+lastOf other (a ∷ l) = lastOf a l
+
+-- ---- many lines
+-- lines judged one after the other on what stands: what is shown after them, and their answers
+unfoldable pub shownOn : ℕ → Shown → List Line → Shown
+shownOn mine r [] = r
+shownOn mine r (l ∷ ls) = shownOn mine (judge mine r (l .chars) (l .more) .reading) ls
+
+unfoldable pub answersOn : ℕ → Shown → List Line → List ℕ
+answersOn mine r [] = []
+answersOn mine r (l ∷ ls) = judge mine r (l .chars) (l .more) .answer ∷ answersOn mine (judge mine r (l .chars) (l .more) .reading) ls
+
+-- "the line is judged and emptied", one after the other: lines judged from r on got the answers vs and left q
+pub record Along (mine : ℕ) (r : Shown) (ls : List Line) (vs : List ℕ) (q : Shown) : Type 0 where
+  pub said : vs ≡ answersOn mine r ls
+  pub left : q ≡ shownOn mine r ls
+
+-- how often an answer was given
+unfoldable pub times : ℕ → List ℕ → ℕ
+times n [] = 0
+times n (a ∷ l) = (if eqb n a then 1 else 0) + times n l
+
+-- "add one to their count", one after the other: the answers vs lead from the counts cs to ds
+pub record Tallied (cs ds vs : List ℕ) : Type 0 where
+  pub long : length ds ≡ 12
+  pub each : (n : ℕ) → IsAnswer n → getD ds (place n) 0 ≡ getD cs (place n) 0 + times n vs
+  pub whole : total ds ≡ total cs + length vs
+
+-- a good line's W and level
+pub record Good : Type 0 where
+  pub water : ℕ
+  pub level : ℤ
+
+-- the line alone where it is good, and nothing where it is not
+unfoldable pub goodOf : ℕ → Line → List Good
+goodOf mine l =
+    if eqb (ofLine mine (l .chars) (l .more)) 0
+    then record { water = waterOf (unhex (l .chars)); level = signed (levelOf (unhex (l .chars))) } ∷ []
+    else []
+
+-- the good ones of a list of lines
+unfoldable pub goods : ℕ → List Line → List Good
+goods mine [] = []
+goods mine (l ∷ ls) = goodOf mine l ++ goods mine ls
+
+-- each W is less than w; each is at most w
+abbrev pub Below : ℕ → List Good → Type 0
+Below w [] = Unit {0}
+Below w (g ∷ gs) = (g .water < w) × Below w gs
+
+abbrev pub AtMost : ℕ → List Good → Type 0
+AtMost w [] = Unit {0}
+AtMost w (g ∷ gs) = (g .water ≤ w) × AtMost w gs
+
+-- "The reading's W is at least that of every other good line judged since fresh, and greater than that of every good line judged before
+-- it"; and there is no reading where there was no good line
+abbrev pub Best : List Good → Shown → Type 0
+Best gs none = gs ≡ []
+Best gs (shows w v) =
+    (before : List Good) × (behind : List Good)
+    × (gs ≡ before ++ record { water = w; level = v } ∷ behind) × Below w before × AtMost w behind
+
+-- ---- all that is claimed of the lines "judged since fresh": of bytes from a fresh decoder on
+pub record SinceFresh (station : ℕ) (bs : List ℕ) : Type 0 where
+  -- the reading is the best of the good lines judged, and there is none exactly where there was no good line
+  pub reading : Best (goods station (linesIn (freshDecoder station) bs)) (addBytes (freshDecoder station) bs .reading)
+  pub empty : (addBytes (freshDecoder station) bs .reading ≡ none) ↔ (goods station (linesIn (freshDecoder station) bs) ≡ [])
+  -- each count is how often its answer was given; together they are the lines judged
+  pub counts : (n : ℕ) → IsAnswer n → countOf (addBytes (freshDecoder station) bs) n ≡ times n (verdictsIn (freshDecoder station) bs)
+  pub judged : length (linesIn (freshDecoder station) bs) ≡ total (addBytes (freshDecoder station) bs .counts)
+  -- the answers and the reading are those of the lines, judged one after the other
+  pub verdicts : verdictsIn (freshDecoder station) bs ≡ answersOn station none (linesIn (freshDecoder station) bs)
+  pub shown : addBytes (freshDecoder station) bs .reading ≡ shownOn station none (linesIn (freshDecoder station) bs)
+  -- at each place: the line's answer, and what stood and stands
+  pub each :
+      (ls rs : List Line) (l : Line) → linesIn (freshDecoder station) bs ≡ ls ++ l ∷ rs
+      → (getD (verdictsIn (freshDecoder station) bs) (length ls) 0 ≡ judge station (shownOn station none ls) (l .chars) (l .more) .answer)
+      × (shownOn station none (ls ++ l ∷ []) ≡ judge station (shownOn station none ls) (l .chars) (l .more) .reading)
+  -- and a line that passes 11 to 16 is one that some writer writes
+  pub writers :
+      (ls rs : List Line) (l : Line) → linesIn (freshDecoder station) bs ≡ ls ++ l ∷ rs
+      → Passes (ofLine station (l .chars) (l .more))
+      → (w : Writer) × Rules w × (lineBy w ≡ l .chars) × (l .more ≡ false)

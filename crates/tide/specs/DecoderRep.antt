@@ -1,0 +1,73 @@
+-- How the code holds what specs/Decoder.antt speaks of, the invariant of its states, and what each call does. Assumes nothing.
+use Prim.Native.Nat.{ℕ, _+_, _≤_, min}
+use mathlib.Core.Path.{_≡_}
+use mathlib.Core.List.{List, [], _∷_}
+use lib.Dec.{eqb}
+use lib.ListN.{length, take}
+use Rattle.numeric.specs.If.{if_then_else_}
+use Rattle.hexadecimal.specs.Hex.{total}
+use Rattle.tide.specs.JudgeRep.{shownOf}
+use Rattle.tide.specs.Decoder as plain
+use Rattle.tide.specs.declared.decoder.Line.{Line}
+use Rattle.tide.specs.declared.decoder.Decoder.{Decoder}
+use Rattle.tide.specs.declared.decoder.Step.{Step}
+use Rattle.tide.specs.declared.decoder.Fed.{Fed}
+
+-- the first `len` of 64 places, and the flag
+abbrev pub lineOf : Line → plain.Line
+lineOf l = record { chars = take (l .len) (l .chars); more = l .more }
+
+abbrev pub decoderOf : Decoder → plain.Decoder
+decoderOf d = record { station = d .station; line = lineOf (d .line); reading = shownOf (d .reading); counts = d .counts }
+
+-- ---- counts of 64 bits: each holds at the most that it can say, 18,446,744,073,709,551,615
+abbrev pub mostCount : ℕ
+mostCount = 18446744073709551615
+
+unfoldable pub held : List ℕ → List ℕ
+held [] = []
+held (n ∷ cs) = min n mostCount ∷ held cs
+
+-- a decoder whose counts hold there; it is the same decoder while all counts together are no more (proofs/DecoderLaws.antt, holds)
+unfoldable pub holding : plain.Decoder → plain.Decoder
+holding d = record { station = d .station; line = d .line; reading = d .reading; counts = held (d .counts) }
+
+-- ---- a state that `new` or a later call gave
+pub record SoundLine (l : Line) : Type 0 where
+  pub short : l .len ≤ 64
+  pub room : length (l .chars) ≡ 64
+
+pub record Sound (d : Decoder) : Type 0 where
+  pub line : SoundLine (d .line)
+  pub places : length (d .counts) ≡ 12
+  pub within : held (d .counts) ≡ d .counts
+
+-- ---- what the calls do
+-- a fresh decoder
+pub record Made (station : ℕ) (d : Decoder) : Type 0 where
+  pub same : decoderOf d ≡ plain.freshDecoder station
+  pub sound : Sound d
+
+-- one byte: the decoder after it, whether it ended a line, and that line's answer (0 where it ended none)
+pub record Stepped (d : Decoder) (c : ℕ) (r : Step) : Type 0 where
+  pub same : decoderOf (r .decoder) ≡ holding (plain.addByte (decoderOf d) c)
+  pub sound : Sound (r .decoder)
+  pub few : total (r .decoder .counts) ≤ total (d .counts) + 1
+  pub ended : r .ended ≡ eqb c 10
+  pub answer : r .answer ≡ (if eqb c 10 then plain.verdict (decoderOf d) .answer else 0)
+
+-- bytes: the decoder after them, the number of lines ended, and the last one's answer (0 also when none ended)
+pub record Feeds (d : Decoder) (bs : List ℕ) (r : Fed) : Type 0 where
+  pub same : decoderOf (r .decoder) ≡ holding (plain.addBytes (decoderOf d) bs)
+  pub sound : Sound (r .decoder)
+  pub few : total (r .decoder .counts) ≤ total (d .counts) + length bs
+  pub lines : r .lines ≡ length (plain.linesIn (decoderOf d) bs)
+  pub last : r .last ≡ plain.lastOf 0 (plain.verdictsIn (decoderOf d) bs)
+
+-- one byte of several
+pub record Byted (f : Fed) (c : ℕ) (r : Fed) : Type 0 where
+  pub same : decoderOf (r .decoder) ≡ holding (plain.addByte (decoderOf (f .decoder)) c)
+  pub sound : Sound (r .decoder)
+  pub few : total (r .decoder .counts) ≤ total (f .decoder .counts) + 1
+  pub lines : r .lines ≡ f .lines + (if eqb c 10 then 1 else 0)
+  pub last : r .last ≡ (if eqb c 10 then plain.verdict (decoderOf (f .decoder)) .answer else f .last)

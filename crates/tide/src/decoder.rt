@@ -1,0 +1,258 @@
+// The decoder: the unended line, the reading and the counts, and what bytes do to them.
+use crate::Reading;
+use crate::judge::judge_line;
+ghost use mathlib.Core.Path.{_≡_};
+ghost use Prim.Native.Nat.{_+_, _<_, min};
+ghost use lib.ListN.{length};
+ghost use Rattle.tide.specs.Decoder.{IsAnswer, place, countOf, bump, longer};
+ghost use Rattle.tide.specs.JudgeRep.{shownOf};
+ghost use Rattle.tide.specs.DecoderRep.{lineOf, decoderOf, mostCount, held, SoundLine, Sound, Made, Stepped, Byted, Feeds};
+
+// A line: its first 64 characters, and whether there were more.
+pub struct Line {
+    chars: [u8; 64],
+    len: usize,
+    more: bool,
+}
+
+// What bytes change: the station's unended line, its reading, and its counts.
+pub struct Decoder {
+    station: u16,
+    line: Line,
+    reading: Reading,
+    // One for each line answer: 0, 11 to 20, 34.
+    counts: [u64; 12],
+}
+
+// What a byte did: whether it ended a line, and that line's answer.
+pub struct Step {
+    pub decoder: Decoder,
+    pub ended: bool,
+    pub answer: u8,
+}
+
+// What bytes did: how many lines they ended, and the last one's answer.
+pub struct Fed {
+    pub decoder: Decoder,
+    pub lines: u64,
+    pub last: u8,
+}
+
+// Where a count holds.
+const MOST_COUNT: u64 = 18446744073709551615;
+
+// Which count an answer has; 12 for a number that is no answer.
+fn place_of(a: u8) -> usize
+    ensures { λ r. ⌜ r ≡ place a ⌝ }
+{
+    if a == 0 {
+        return 0;
+    }
+    if a == 34 {
+        return 11;
+    }
+    if a < 11 {
+        return 12;
+    }
+    if a <= 20 {
+        return (a as usize) - 10;
+    }
+    12
+}
+
+fn one_more(n: u64) -> u64
+    ensures { λ r. ⌜ r ≡ min (n + 1) mostCount ⌝ }
+{
+    if n < MOST_COUNT {
+        return n + 1;
+    }
+    MOST_COUNT
+}
+
+// The counts with one more at an answer.
+fn counted(cs: [u64; 12], a: u8) -> [u64; 12]
+    requires { ⌜ IsAnswer a × (length cs ≡ 12) × (held cs ≡ cs) ⌝ }
+    ensures { λ r. ⌜ r ≡ held (bump cs a) ⌝ }
+{
+    let k = place_of(a);
+    let mut r = cs;
+    r[k] = one_more(r[k]);
+    r
+}
+
+fn longer_line(l: Line, c: u8) -> Line
+    requires { ⌜ SoundLine l ⌝ }
+    ensures { λ r. ⌜ (lineOf r ≡ longer (lineOf l) c) × SoundLine r ⌝ }
+{
+    let n = l.len;
+    let mut s = l.chars;
+    if n < 64 {
+        s[n] = c;
+        return Line {
+            chars: s,
+            len: n + 1,
+            more: l.more,
+        };
+    }
+    Line {
+        chars: s,
+        len: n,
+        more: true,
+    }
+}
+
+impl Decoder {
+    // A fresh decoder for a station.
+    pub fn new(station: u16) -> Decoder
+        ensures { λ r. ⌜ Made station r ⌝ }
+    {
+        let line = Line {
+            chars: [0; 64],
+            len: 0,
+            more: false,
+        };
+        Decoder {
+            station: station,
+            line: line,
+            reading: Reading::None,
+            counts: [0; 12],
+        }
+    }
+
+    // The line is judged, counted and emptied.
+    fn end_line(self) -> Step
+        requires { ⌜ Sound self ⌝ }
+        ensures { λ r. ⌜ Stepped self 10 r ⌝ }
+    {
+        let l = self.line;
+        let ch = l.chars;
+        let n = l.len;
+        let rd = self.reading;
+        let j = judge_line(&ch[..n], l.more, self.station as u32, rd);
+        let cs = self.counts;
+        let nr = j.reading;
+        let nc = counted(cs, j.answer);
+        let nl = Line {
+            chars: ch,
+            len: 0,
+            more: false,
+        };
+        let nd = Decoder {
+            station: self.station,
+            line: nl,
+            reading: nr,
+            counts: nc,
+        };
+        Step {
+            decoder: nd,
+            ended: true,
+            answer: j.answer,
+        }
+    }
+
+    // The line is one character longer.
+    fn grow(self, c: u8) -> Step
+        requires { ⌜ Sound self × (c ≡ 10 → ⊥) ⌝ }
+        ensures { λ r. ⌜ Stepped self c r ⌝ }
+    {
+        let l = self.line;
+        let rd = self.reading;
+        let cs = self.counts;
+        let longer = longer_line(l, c);
+        let nd = Decoder {
+            station: self.station,
+            line: longer,
+            reading: rd,
+            counts: cs,
+        };
+        Step {
+            decoder: nd,
+            ended: false,
+            answer: 0,
+        }
+    }
+
+    // Takes one byte: 0A ends the line.
+    pub fn add_byte(self, c: u8) -> Step
+        requires { ⌜ Sound self ⌝ }
+        ensures { λ r. ⌜ Stepped self c r ⌝ }
+    {
+        if c == 10 {
+            return self.end_line();
+        }
+        self.grow(c)
+    }
+
+    // Takes bytes, in order.
+    pub fn feed(self, s: &[u8]) -> Fed
+        requires { ⌜ Sound self ⌝ }
+        ensures { λ r. ⌜ Feeds self (now (s .entry)) r ⌝ }
+    {
+        let mut f = Fed {
+            decoder: self,
+            lines: 0,
+            last: 0,
+        };
+        let mut i = 0;
+        while i < s.len() {
+            f = feed_byte(f, s[i]);
+            i += 1;
+        }
+        f
+    }
+
+    // The station that it reads for.
+    pub fn station(self) -> u16
+        ensures { λ r. ⌜ r ≡ decoderOf self .station ⌝ }
+    {
+        self.station
+    }
+
+    // What the decoder shows.
+    pub fn reading(self) -> Reading
+        ensures { λ r. ⌜ shownOf r ≡ decoderOf self .reading ⌝ }
+    {
+        self.reading
+    }
+
+    // How often each answer was given: 0, 11 to 20, 34.
+    pub fn counts(self) -> [u64; 12]
+        ensures { λ r. ⌜ r ≡ decoderOf self .counts ⌝ }
+    {
+        self.counts
+    }
+
+    // How often an answer was given; 0 for a number that is no answer.
+    pub fn count(self, answer: u8) -> u64
+        requires { ⌜ Sound self ⌝ }
+        ensures { λ r. ⌜ r ≡ countOf (decoderOf self) answer ⌝ }
+    {
+        let k = place_of(answer);
+        let cs = self.counts;
+        if k < 12 {
+            return cs[k];
+        }
+        0
+    }
+}
+
+// A byte more of several: the decoder, the lines ended so far and the last one's answer.
+fn feed_byte(f: Fed, c: u8) -> Fed
+    requires { ⌜ Sound (f .decoder) × (f .lines < mostCount) ⌝ }
+    ensures { λ r. ⌜ Byted f c r ⌝ }
+{
+    let t = f.decoder.add_byte(c);
+    let d = t.decoder;
+    if t.ended {
+        return Fed {
+            decoder: d,
+            lines: f.lines + 1,
+            last: t.answer,
+        };
+    }
+    Fed {
+        decoder: d,
+        lines: f.lines,
+        last: f.last,
+    }
+}

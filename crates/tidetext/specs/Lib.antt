@@ -1,2 +1,0 @@
--- The definitions that the contracts of `tidetext` cite.
-pub mod Text

@@ -1,2 +1,0 @@
--- The definitions that the contracts of `timing` cite.
-pub mod Timing

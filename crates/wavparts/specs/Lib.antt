@@ -1,3 +1,0 @@
--- The definitions that the contracts of `wavparts` cite.
-pub mod Sample
-pub mod Words
