@@ -21,7 +21,7 @@ module _ (rate station : ℕ) (role : Role) (s : List Float) (ns a : List ℕ) (
   listens-refused why e =
       record {
         answer = made .answer;
-        refused = λ _. record { writes = refl; state = made .state; answers = refl; events = made .events };
+        refused = λ _. record { writes = refl; state = made .state; answers = refl };
         run = λ z. absurd (new-refused rate station role m made why e z);
         sound = made .sound;
       }
@@ -38,7 +38,6 @@ module _ (rate station : ℕ) (role : Role) (s : List Float) (ns a : List ℕ) (
           said = answersAll (fresh rate station role) (writesOf s (take (r .writes) ns));
           term = rw (k .state, f) (third rate station role (writesOf s (take (r .writes) ns)));
           answers = rw (← f) (k .answers);
-          events = rw (← f, ← made .events) (k .events);
         };
         sound = k .sound;
       }

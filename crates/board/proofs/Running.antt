@@ -1,7 +1,6 @@
 -- A list of writes, run by the code. Assumes nothing.
 use Prim.Native.Nat.{ℕ, min, _+_, _*_, _-_, _/_, _<_, _≤_, zero-le}
 use mathlib.Core.Path.{_≡_, refl, sym, ap, _∙_}
-use mathlib.Core.Bool.{Bool}
 use mathlib.Core.List.{List, [], _∷_, _++_, append-assoc, append-nil}
 use native.Mathlib.Nat.{min-le-left, min-le-right}
 use native.Mathlib.Numerals.{add-one}
@@ -11,8 +10,8 @@ use lib.Seq.{drop-cons, drop-drop, drop-length, length-take-le, getD-take}
 use lib.Ieee.{Float}
 use Rattle.refusal.specs.declared.Acceptance.the-variants.{Accepted}
 use Rattle.numeric.proofs.Parts.{take-behind, drop-behind, part-next, part-left}
-use Rattle.board.specs.Plain.{Plain, Answer, refused, heard, answer, afterAll, answersAll, eventsAll}
-use Rattle.board.specs.BoardRep.{plainOf, eventsIn, answerOf, BoardSound, Writes}
+use Rattle.board.specs.Plain.{Plain, Answer, refused, heard, answer, afterAll, answersAll}
+use Rattle.board.specs.BoardRep.{plainOf, answerOf, BoardSound, Writes}
 use Rattle.board.specs.Runs.{writesOf, numbersOf, numbersAll, writesRun, Within, Stepped, RunFrom}
 use Rattle.board.specs.declared.board.Board.{Board}
 use Rattle.board.specs.declared.board.Written.{Written}
@@ -30,24 +29,22 @@ steps p n e s w t at a a′ is fits writes numbers put =
     let k = part-next s (p .read) n e is in
     record {
       state = rw (← k) (writes .state);
-      events = rw (← k) (writes .events);
       left = part-left s (p .read) n e is;
       answers = rw (← k, ← writes .answer, ← numbers) put;
       within = record { sound = writes .sound; read = fits };
     }
 
 -- ---- part of the way: after i writes of the lengths ns, at p, with the answers a in the place of a₀; what the rest does on p is what all do on b₀
-pub record Going (b₀ : Plain) (logged : List Bool) (s : List Float) (ns a₀ : List ℕ) (i : ℕ) (p : Place) (a : List ℕ) : Type 0 where
+pub record Going (b₀ : Plain) (s : List Float) (ns a₀ : List ℕ) (i : ℕ) (p : Place) (a : List ℕ) : Type 0 where
   pub within : Within p s
   pub board : afterAll (plainOf (p .board)) (writesOf (drop (p .read) s) (drop i ns)) ≡ afterAll b₀ (writesOf s ns)
   pub answers : take (4 * i) a ++ numbersAll (answersAll (plainOf (p .board)) (writesOf (drop (p .read) s) (drop i ns))) ≡ numbersAll (answersAll b₀ (writesOf s ns))
   pub rest : drop (4 * i) a ≡ drop (4 * i) a₀
-  pub events : eventsAll (plainOf (p .board)) (eventsIn (p .board)) (writesOf (drop (p .read) s) (drop i ns)) ≡ eventsAll b₀ logged (writesOf s ns)
 
-pub going-start : (b : Board) (s : List Float) (ns a : List ℕ) → BoardSound b → Going (plainOf b) (eventsIn b) s ns a 0 (record { board = b; read = 0 }) a
-going-start b s ns a k = record { within = record { sound = k; read = zero-le }; board = refl; answers = refl; rest = refl; events = refl }
+pub going-start : (b : Board) (s : List Float) (ns a : List ℕ) → BoardSound b → Going (plainOf b) s ns a 0 (record { board = b; read = 0 }) a
+going-start b s ns a k = record { within = record { sound = k; read = zero-le }; board = refl; answers = refl; rest = refl }
 
-module _ (b₀ : Plain) (logged : List Bool) (s : List Float) (ns a₀ : List ℕ) (i : ℕ) (p q : Place) (a a′ : List ℕ) (some : i < length ns) (room : 4 * i + 4 ≤ length a)
+module _ (b₀ : Plain) (s : List Float) (ns a₀ : List ℕ) (i : ℕ) (p q : Place) (a a′ : List ℕ) (some : i < length ns) (room : 4 * i + 4 ≤ length a)
     (step : Stepped p q (getD ns i 0) s (4 * i) a a′) where
   abbrev gave : Answer
   gave = answer (plainOf (p .board)) (take (getD ns i 0) (drop (p .read) s))
@@ -63,7 +60,7 @@ module _ (b₀ : Plain) (logged : List Bool) (s : List Float) (ns a₀ : List �
 
   numbers-four : (x : Answer) (l : List ℕ) → (take 4 (numbersOf x ++ l) ≡ numbersOf x) × (drop 4 (numbersOf x ++ l) ≡ l)
   numbers-four (refused n) l = (refl, refl)
-  numbers-four (heard h k z) l = (refl, refl)
+  numbers-four (heard x) l = (refl, refl)
 
   answered : take (4 * (i + 1)) a′ ≡ take (4 * i) a ++ said
   answered =
@@ -78,22 +75,21 @@ module _ (b₀ : Plain) (logged : List Bool) (s : List Float) (ns a₀ : List �
   next : drop i ns ≡ getD ns i 0 ∷ drop (i + 1) ns
   next = rw (add-one i) (drop-cons ns i 0 some)
 
-  pub going-on : Going b₀ logged s ns a₀ i p a → Going b₀ logged s ns a₀ (i + 1) q a′
-  unfolding writesOf afterAll eventsAll answersAll numbersAll
+  pub going-on : Going b₀ s ns a₀ i p a → Going b₀ s ns a₀ (i + 1) q a′
+  unfolding writesOf afterAll answersAll numbersAll
   going-on g =
       record {
         within = step .within;
         board = rw (step .state, step .left) (rw next at (g .board));
-        events = rw (step .events, step .state, step .left) (rw next at (g .events));
         answers = rw (answered, append-assoc, step .state, step .left) (rw next at (g .answers));
         rest = unanswered ∙ sym (drop-drop 4 (4 * i) a) ∙ ap (λ (l : List ℕ). drop 4 l) (g .rest) ∙ drop-drop 4 (4 * i) a₀ ∙ ap (λ (k : ℕ). drop k a₀) (sym four);
       }
 
 -- ---- after the last
 pub goes-through : (b : Board) (s : List Float) (ns a₀ : List ℕ) (i : ℕ) (p : Place) (a : List ℕ)
-    → i ≡ writesRun ns a₀ → Going (plainOf b) (eventsIn b) s (take i ns) a₀ i p a
+    → i ≡ writesRun ns a₀ → Going (plainOf b) s (take i ns) a₀ i p a
     → RunFrom b s ns a₀ (record { answer = Accepted; writes = i; state = p .board }) a
-unfolding writesOf afterAll answersAll eventsAll numbersAll
+unfolding writesOf afterAll answersAll numbersAll
 goes-through b s ns a₀ i p a e g =
     let l : length (take i ns) ≡ i = length-take-le i ns (omega (arith, e, min-le-left (length ns) (length a₀ / 4))) in
     let z : drop i (take i ns) ≡ [] = ap (λ (k : ℕ). drop k (take i ns)) (sym l) ∙ drop-length (take i ns) in
@@ -101,7 +97,6 @@ goes-through b s ns a₀ i p a e g =
       answer = refl;
       writes = e;
       state = rw z at (g .board);
-      events = rw z at (g .events);
       answers =
           let f : take (4 * i) a ≡ numbersAll (answersAll (plainOf b) (writesOf s (take i ns))) = sym (append-nil (take (4 * i) a)) ∙ (rw z at (g .answers)) in
           sym (take-append-drop (4 * i) a) ∙ ap (λ (x : List ℕ). x ++ drop (4 * i) a) f ∙ ap (λ (x : List ℕ). numbersAll (answersAll (plainOf b) (writesOf s (take i ns))) ++ x) (g .rest);

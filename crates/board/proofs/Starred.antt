@@ -12,8 +12,9 @@ use Rattle.framing.specs.Frame.{mark, space, frameOf, freshDeframer, idleBit, d
 use Rattle.tide.proofs.LineExamples.{text}
 use Rattle.hexadecimal.specs.Hex.{hex, allHex, unhex, total}
 use Rattle.tide.specs.Frame.{stationOf, stampOf, ageOf, levelOf, signed, waterOf}
-use Rattle.tide.specs.Judge.{Shown, shows, later, settle, ofFields, ofFrame, ofLine, judge}
-use Rattle.tide.specs.Decoder.{Decoder, freshDecoder, place, bump, verdict, ended, longer, grown, addByte, addBytes, verdictsIn, lastOf}
+use Rattle.happenings.specs.Happening.{typed}
+use Rattle.tide.specs.Judge.{Shown, shows, readingOf, later, settle, damageOf, ofFields, judgedOf, ofLine, judge}
+use Rattle.tide.specs.Decoder.{Decoder, freshDecoder, place, bump, verdict, ended, longer, grown, moveOf, moved, took, tookAll, verdictsIn, lastOf}
 
 pub data Example : Type 0 where
   -- a byte, and its ten bits
@@ -37,8 +38,8 @@ given d (deframed bits bytes errors begun ∷ es) =
 given d (samples rate n count ∷ es) = samples rate n (samplesForBits n rate) ∷ given d es
 given d (station s ∷ es) = station s ∷ given (freshDecoder s) es
 given d (line l answer shown ∷ es) =
-    let bytes = text l ++ 10 ∷ [] in
-    line l (lastOf 0 (verdictsIn d bytes)) (addBytes d bytes .reading) ∷ given (addBytes d bytes) es
+    let heard = typed (text l ++ 10 ∷ []) in
+    line l (lastOf 0 (verdictsIn d heard)) (tookAll d heard .reading) ∷ given (tookAll d heard) es
 
 unfoldable pub starred : List Example
 starred =
@@ -53,17 +54,17 @@ starred =
     ∷ samples 8000 3 80
     -- "Program `tideline` (station 7)": `1 0`, `2 34`, `3 17`, `4 34`, `5 12`, `R 7 12582907 412`
     ∷ station 7
-    ∷ line "01010D000700C0000005019C88" 0 (shows 12582907 (pos 412))
-    ∷ line "03010E000700C0000005019C5A2B" 34 (shows 12582907 (pos 412))
-    ∷ line "03020E000700C0000005019C5A2A" 17 (shows 12582907 (pos 412))
-    ∷ line "01010D000700C0001015019C68" 34 (shows 12582907 (pos 412))
-    ∷ line "" 12 (shows 12582907 (pos 412))
+    ∷ line "01010D000700C0000005019C88" 0 (shows (record { water = 12582907; level = pos 412 }))
+    ∷ line "03010E000700C0000005019C5A2B" 34 (shows (record { water = 12582907; level = pos 412 }))
+    ∷ line "03020E000700C0000005019C5A2A" 17 (shows (record { water = 12582907; level = pos 412 }))
+    ∷ line "01010D000700C0001015019C68" 34 (shows (record { water = 12582907; level = pos 412 }))
+    ∷ line "" 12 (shows (record { water = 12582907; level = pos 412 }))
     -- "01010D000700C0000005FFFF27 has level -1" (negsuc n is -1 - n)
     ∷ station 7
-    ∷ line "01010D000700C0000005FFFF27" 0 (shows 12582907 (negsuc 0))
+    ∷ line "01010D000700C0000005FFFF27" 0 (shows (record { water = 12582907; level = negsuc 0 }))
     ∷ []
 
 -- the definitions give back the whole table
 pub starred-hold : given (freshDecoder 7) starred ≡ starred
-unfolding given starred idleBit dataBit stopBit badStop pushBit heard after text freshDecoder hex allHex unhex total first stationOf stampOf ageOf levelOf signed ofFields ofFrame ofLine later settle waterOf judge place bump verdict ended longer grown addByte addBytes verdictsIn lastOf
+unfolding given starred idleBit dataBit stopBit badStop pushBit heard after text freshDecoder hex allHex unhex total first stationOf stampOf ageOf levelOf signed damageOf ofFields judgedOf ofLine later settle waterOf readingOf judge place bump verdict ended longer grown moveOf moved took tookAll typed verdictsIn lastOf
 starred-hold = refl

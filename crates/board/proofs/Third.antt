@@ -4,17 +4,17 @@ use mathlib.Core.Bool.{false}
 use mathlib.Core.Path.{_≡_, refl, sym, ap, _∙_}
 use mathlib.Core.List.{List, [], _∷_, _++_}
 use native.Mathlib.Omega.{arith}
-use lib.IntN.{ℤ}
+use Rattle.happenings.specs.declared.happening.Happening.{Happening}
 use lib.ListN.{getD, drop}
 use lib.Ieee.{Float}
 use Rattle.bell103.specs.declared.Role.{Role}
 use Rattle.hexadecimal.specs.Hex.{hexLine, total}
 use Rattle.tide.specs.Frame.{readerOf, Intact, Writer, Rules, lineBy}
-use Rattle.tide.specs.Judge.{Shown, none, shows, Verdict, judge, ofLine, Passes}
-use Rattle.tide.specs.Decoder.{Line, Decoder, freshDecoder, place, addBytes, linesIn, verdictsIn, answersOn, times, Good, Below, AtMost, Best, SinceFresh}
+use Rattle.tide.specs.Judge.{Reading, Shown, none, shows, Verdict, judge, Passes}
+use Rattle.tide.specs.Decoder.{Line, Decoder, freshDecoder, place, tookAll, linesIn, verdictsIn, answersOn, times, Below, AtMost, Best, SinceFresh}
 use Rattle.tide.proofs.JudgeLaws as judging
 use Rattle.tide.proofs.DecoderLaws as decoders
-use Rattle.board.specs.Plain.{Plain, fresh, afterAll, linesAll, verdictsAll, answersAll, heardAll}
+use Rattle.board.specs.Plain.{Plain, decoder, fresh, afterAll, linesAll, verdictsAll, answersAll, heardAll}
 use Rattle.board.proofs.PlainLaws.{all-decoder, all-lines, all-verdicts, all-ended}
 use Rattle.board.specs.Term.{stands, given, lineOf, onFields, JudgedAs, Term3}
 
@@ -25,15 +25,15 @@ total-split [] = refl
 total-split (c ∷ cs) = refl
 
 -- the best is at least every one
-most-split : (w : ℕ) (before behind : List Good) (g : Good) → Below w before → g .water ≤ w → AtMost w behind → AtMost w (before ++ g ∷ behind)
+most-split : (w : ℕ) (before behind : List Reading) (g : Reading) → Below w before → g .water ≤ w → AtMost w behind → AtMost w (before ++ g ∷ behind)
 most-split w [] behind g p h q = (h, q)
 most-split w (b ∷ before) behind g p h q = (let a = p .0 in omega arith, most-split w before behind g (p .1) h q)
 
-best-most : (gs : List Good) (r : Shown) (w : ℕ) (v : ℤ) → r ≡ shows w v → Best gs r → AtMost w gs
-best-most gs none w v e b = let z : _≡_ {A = ℕ} 0 1 = cc in absurd (omega arith)
-best-most gs (shows w₀ v₀) w v e b =
-    let z : w₀ ≡ w = cc in
-    rw (← z, b .2) (most-split w₀ (b .0) (b .1) (record { water = w₀; level = v₀ }) (b .3) (omega arith) (b .4))
+best-most : (gs : List Reading) (r : Shown) (x : Reading) → r ≡ shows x → Best gs r → AtMost (x .water) gs
+best-most gs none x e b = let z : _≡_ {A = ℕ} 0 1 = cc in absurd (omega arith)
+best-most gs (shows y) x e b =
+    let z : y ≡ x = cc in
+    rw (← z, b .2) (most-split (y .water) (b .0) (b .1) y (b .3) (omega arith) (b .4))
 
 -- one line more
 given-more : (mine : ℕ) (ls : List Line) (l : Line) → given mine (ls ++ l ∷ []) ≡ given mine ls ++ judge mine (stands mine ls) (l .chars) (l .more) .answer ∷ []
@@ -43,24 +43,30 @@ given-more mine ls l = decoders.answers-append mine none ls (l ∷ []) ∙ unfol
 line-is : (l : Line) (chars : List ℕ) → chars ≡ l .chars → l .more ≡ false → l ≡ lineOf chars
 line-is l chars e m = rw (e, ← m) refl
 
-module _ (b : Plain) (is : b .decoder ≡ freshDecoder (b .decoder .station)) (ws : List (List Float)) where
+module _ (b : Plain) (is : decoder b ≡ freshDecoder (b .station)) (ws : List (List Float)) where
   abbrev station : ℕ
-  station = b .decoder .station
+  station = b .station
 
-  abbrev bytes : List ℕ
-  bytes = heardAll b ws
+  abbrev all : List Happening
+  all = heardAll b ws
 
-  claims : SinceFresh station bytes
-  claims = decoders.since-fresh station bytes
+  claims : SinceFresh station all
+  claims = decoders.since-fresh station all
 
-  decoder-is : afterAll b ws .decoder ≡ addBytes (freshDecoder station) bytes
-  decoder-is = all-decoder b ws ∙ ap (λ (d : Decoder). addBytes d bytes) is
+  decoder-is : decoder (afterAll b ws) ≡ tookAll (freshDecoder station) all
+  decoder-is = all-decoder b ws ∙ ap (λ (d : Decoder). tookAll d all) is
 
-  lines-are : linesAll b ws ≡ linesIn (freshDecoder station) bytes
-  lines-are = all-lines b ws ∙ ap (λ (d : Decoder). linesIn d bytes) is
+  reading-is : afterAll b ws .reading ≡ tookAll (freshDecoder station) all .reading
+  reading-is = ap (λ (d : Decoder). d .reading) decoder-is
 
-  verdicts-are : verdictsAll b ws ≡ verdictsIn (freshDecoder station) bytes
-  verdicts-are = all-verdicts b ws ∙ ap (λ (d : Decoder). verdictsIn d bytes) is
+  counts-are : afterAll b ws .counts ≡ tookAll (freshDecoder station) all .counts
+  counts-are = ap (λ (d : Decoder). d .counts) decoder-is
+
+  lines-are : linesAll b ws ≡ linesIn (freshDecoder station) all
+  lines-are = all-lines b ws ∙ ap (λ (d : Decoder). linesIn d all) is
+
+  verdicts-are : verdictsAll b ws ≡ verdictsIn (freshDecoder station) all
+  verdicts-are = all-verdicts b ws ∙ ap (λ (d : Decoder). verdictsIn d all) is
 
   each-at : (ls rs : List Line) (l : Line) → linesAll b ws ≡ ls ++ l ∷ rs
       → JudgedAs station (verdictsAll b ws) ls l (judge station (stands station ls) (l .chars) (l .more))
@@ -72,7 +78,7 @@ module _ (b : Plain) (is : b .decoder ≡ freshDecoder (b .decoder .station)) (w
       → JudgedAs station (verdictsAll b ws) ls l (judge station (stands station ls) (l .chars) (l .more)) → JudgedAs station (verdictsAll b ws) ls l v
   as-said ls l v e k = rw (← e) k
 
-  written-at : (ls rs : List Line) (l : Line) → linesAll b ws ≡ ls ++ l ∷ rs → Passes (ofLine station (l .chars) (l .more))
+  written-at : (ls rs : List Line) (l : Line) → linesAll b ws ≡ ls ++ l ∷ rs → Passes (l .chars) (l .more)
       → (w : Writer) × Rules w × (l ≡ lineOf (lineBy w))
   written-at ls rs l e p =
       let k = claims .writers ls rs l (sym lines-are ∙ e) p in
@@ -89,14 +95,14 @@ module _ (b : Plain) (is : b .decoder ≡ freshDecoder (b .decoder .station)) (w
       record {
         board = refl;
         answers = refl;
-        reading = rw (lines-are, decoder-is) (claims .reading);
-        empty = rw (lines-are, decoder-is) (claims .empty);
-        greatest = λ w v e. rw (lines-are) (best-most _ _ w v (rw decoder-is at e) (claims .reading));
-        counts = λ n h. rw (decoder-is, verdicts-are) (claims .counts n h);
+        reading = rw (lines-are, reading-is) (claims .reading);
+        empty = rw (lines-are, reading-is) (claims .empty);
+        greatest = λ x e. rw (lines-are) (best-most _ _ x (sym reading-is ∙ e) (claims .reading));
+        counts = λ n h. rw (counts-are, verdicts-are) (claims .counts n h);
         ended = all-ended b ws;
-        judged = rw (lines-are, decoder-is) (claims .judged ∙ total-split (addBytes (freshDecoder station) bytes .counts) ∙ unfold place in refl);
+        judged = rw (lines-are, counts-are) (claims .judged ∙ total-split (tookAll (freshDecoder station) all .counts) ∙ unfold place in refl);
         verdicts = rw (lines-are, verdicts-are) (claims .verdicts);
-        shown = rw (lines-are, decoder-is) (claims .shown);
+        shown = rw (lines-are, reading-is) (claims .shown);
         each = λ ls rs l e. each-at ls rs l e;
         fields = λ ls rs w e k r. as-said ls (lineOf (lineBy w)) _ (unfold onFields in judging.fields w k station (stands station ls) r) (each-at ls rs (lineOf (lineBy w)) e);
         written = written-at;
@@ -104,7 +110,7 @@ module _ (b : Plain) (is : b .decoder ≡ freshDecoder (b .decoder .station)) (w
         newer = λ ls rs f e i h. (as-said ls (lineOf (hexLine f)) _ (judging.judge-newer station (stands station ls) f i h) (each-at ls rs (lineOf (hexLine f)) e), counted-17 ls f i h);
       }
 
-is-fresh : (rate station : ℕ) (role : Role) → fresh rate station role .decoder ≡ freshDecoder (fresh rate station role .decoder .station)
+is-fresh : (rate station : ℕ) (role : Role) → decoder (fresh rate station role) ≡ freshDecoder (fresh rate station role .station)
 unfolding fresh freshDecoder
 is-fresh rate station role = refl
 

@@ -1,44 +1,47 @@
 -- What `new` and `write` of the code do is what they do to the plain board. Assumes nothing.
-use Prim.Native.Nat.{ℕ, _+_, _≤_}
+use Prim.Native.Nat.{ℕ, _+_, _*_, _≤_}
 use mathlib.Core.Path.{_≡_, refl, sym, ap, _∙_}
 use mathlib.Core.Bool.{Bool, true, false}
-use mathlib.Core.List.{List, [], _++_}
+use mathlib.Core.List.{List}
 use native.Mathlib.Omega.{arith}
 use lib.Dec.{eqb}
-use lib.ListN.{length, take}
+use lib.ListN.{length}
 use lib.Ieee.{Float}
 use Rattle.numeric.specs.If.{if_then_else_}
-use Rattle.refusal.specs.Refusals.{acceptanceOf, replyOf, first, rateRefused}
+use Rattle.refusal.specs.Refusals.{numberOf, acceptanceOf, replyOf, first, rateRefused}
 use Rattle.refusal.proofs.RefusalLaws.{first-yes, first-no}
 use Rattle.framing.specs.Framing as framing
-use Rattle.modem.specs.Rx as rx
-use Rattle.modem.specs.Write.{refusedBy}
-use Rattle.modem.specs.RxRep.{receiverOf, RxSound}
+use Rattle.happenings.specs.Happening.{bytesIn}
+use Rattle.happenings.specs.Codes.{heardIn}
+use Rattle.happenings.specs.declared.happening.Happening.{Happening}
+use Rattle.modem.specs.Listener as rx
+use Rattle.modem.specs.ListenerRep.{demodOf, ListenerSound, Opens, Takes, Hears}
 use Rattle.modem.proofs.RxLaws.{heard-few, fresh-idle}
-use Rattle.modem.proofs.RxCalls.{sound-listens, sound-few, sound-count, new-is, fresh-is, write-accepts, write-refuses, reads-all}
-use Rattle.modem.specs.Rx.{Accepts, ReadsAll, admitted}
+use Rattle.modem.proofs.RxCalls.{listener-listens, number-some, refused-by}
 use Rattle.bell103.specs.declared.Role.{Role}
+use Rattle.demodulation.specs.declared.kind.Kind.the-variants as kind
 use Rattle.refusal.specs.declared.Refusal.{Refusal}
 use Rattle.refusal.specs.declared.Refusal.the-variants.{Station}
 use Rattle.refusal.specs.declared.Acceptance.{Acceptance}
 use Rattle.refusal.specs.declared.Acceptance.the-variants.{Accepted, Refused}
-use Rattle.modem.specs.declared.rx.Rx.{Rx}
+use Rattle.modem.specs.declared.listener.Listener.{Listener}
+use Rattle.modem.specs.declared.listener.Opened.{Opened}
+use Rattle.modem.specs.declared.listener.Listened.{Listened}
 use Rattle.hexadecimal.specs.Hex.{total}
 use Rattle.tide.specs.Decoder as tide
-use Rattle.tide.proofs.DecoderLaws.{holds-bytes}
+use Rattle.tide.proofs.DecoderLaws.{holds-heard, total-heard, laid-none}
 use Rattle.tide.specs.DecoderRep as decoders
 use Rattle.tide.specs.declared.decoder.Decoder.{Decoder}
 use Rattle.tide.specs.declared.decoder.Fed.{Fed}
 use Rattle.board.specs.Station.{checked}
 use Rattle.board.specs.Plain as plain
-use Rattle.board.proofs.PlainLaws.{events-accepted, events-refused, after-accepted, answer-accepted, after-refused, answer-refused}
-use Rattle.board.specs.BoardRep.{plainOf, eventsIn, answerOf, Few, BoardSound, Makes, Writes, ReadsTo}
+use Rattle.board.proofs.PlainLaws.{after-accepted, answer-accepted, heard-accepted, after-refused, answer-refused, verdicts-refused}
+use Rattle.board.specs.BoardRep.{plainOf, answerOf, Few, BoardSound, Makes, Writes, WritesInto, Judgeable, JudgesAll}
 use Rattle.board.specs.declared.board.Board.{Board}
 use Rattle.board.specs.declared.board.Answer.the-variants as answer
 use Rattle.board.specs.declared.board.Written.{Written}
 
-plain-same : (d d′ : rx.Demod) (n n′ : ℕ) (k k′ : tide.Decoder) → d ≡ d′ → n ≡ n′ → k ≡ k′
-    → _≡_ {A = plain.Plain} (record { demod = d; accepted = n; decoder = k }) (record { demod = d′; accepted = n′; decoder = k′ })
+plain-same : (d d′ : rx.Demod) (n n′ : ℕ) (k k′ : tide.Decoder) → d ≡ d′ → n ≡ n′ → k ≡ k′ → plain.plain d n k ≡ plain.plain d′ n′ k′
 plain-same d d′ n n′ k k′ p q r = rw (p, q, r) refl
 
 -- ---- `new`
@@ -60,124 +63,128 @@ checked-is false Accepted station e = by (eqb station 0) ∙ ap replyOf (sym (fi
     by true = ap replyOf (sym (first-yes 2 0))
     by false = ap replyOf (sym (first-no 2 0))
 
-module _ (rate station : ℕ) (role : Role) (r : Rx) (a : Acceptance) (d : Decoder)
-    (gave : rx.made (acceptanceOf a) (receiverOf r) ≡ rx.newOf rate role) (sound : RxSound r) (made : decoders.Made station d) where
-  receiver-is : receiverOf r ≡ rx.receiver (rx.freshDemod (admitted rate) role) [] [] 0
-  receiver-is = ap (λ (m : rx.Made). m .state) (gave ∙ new-is rate role) ∙ fresh-is (admitted rate) role
-
+module _ (rate station : ℕ) (role : Role) (m : Opened) (d : Decoder) (opens : Opens kind.ForBoard rate role m) (made : decoders.Made station d) where
   no-counts : total (d .counts) ≡ 0
   unfolding tide.freshDecoder total
   no-counts = ap (λ (k : tide.Decoder). total (k .counts)) (made .same)
 
-  few : Few r d
+  few : Few (m .state) d
   unfolding Few
   few =
-      let w = ap (λ (x : rx.Receiver). length (x .waiting)) receiver-is in
-      let h = ap (λ (x : rx.Receiver). framing.held (x .demod .inner .core .deframer)) receiver-is ∙ fresh-idle (admitted rate) role in
-      omega (arith, no-counts, w, h)
+      let h = ap (λ (x : rx.Demod). framing.held (x .inner .deframer)) (opens .fresh .demod) ∙ fresh-idle kind.ForBoard (rx.admitted rate) role in
+      omega (arith, no-counts, h)
 
-  pub makes : Makes rate station role (record { answer = checked a station; state = record { rx = r; decoder = d } })
-  unfolding plainOf eventsIn plain.newOf plain.newNumber plain.fresh
+  pub makes : Makes rate station role (record { answer = checked (m .answer) station; state = record { listener = m .state; decoder = d } })
+  unfolding plainOf plain.newOf plain.newNumber plain.fresh
   makes =
       record {
-        answer = checked-is (rateRefused rate) a station (ap (λ (m : rx.Made). m .answer) (gave ∙ new-is rate role));
-        state =
-            plain-same _ _ _ _ _ _ (ap (λ (x : rx.Receiver). x .demod) receiver-is) (ap (λ (x : rx.Receiver). x .accepted) receiver-is) (made .same);
-        events = ap (λ (x : rx.Receiver). x .logged) receiver-is;
-        sound = record { rx = sound; empty = ap (λ (x : rx.Receiver). x .waiting) receiver-is; decoder = made .sound; few = few };
+        answer = checked-is (rateRefused rate) (m .answer) station (opens .answer);
+        state = plain-same _ _ _ _ _ _ (opens .fresh .demod) (opens .fresh .accepted) (made .same);
+        sound = record { listener = opens .fresh .sound; decoder = made .sound; few = few };
       }
 
--- ---- the bytes that wait, read and judged
-module _ (r : Rx) (d : Decoder) (sound : RxSound r) (sound-decoder : decoders.Sound d) (few : Few r d) where
-  few-counts : total (d .counts) + length (receiverOf r .waiting) ≤ decoders.mostCount
-  unfolding Few
-  few-counts = omega (arith, few, sound-count r sound)
-
-  module _ (next : Rx) (n : ℕ) (buf buf′ : List ℕ) (places : length buf ≡ 512)
-      (read : rx.readOut n (receiverOf next) buf′ ≡ rx.readOf (receiverOf r) buf) (sound-next : RxSound next) where
-    all : ReadsAll (receiverOf r) n (receiverOf next) buf′
-    all = reads-all (receiverOf r) n (receiverOf next) buf buf′ (omega (arith, sound-few r sound, places)) read
-
-    pub count-few : n ≤ 512
-    count-few = omega (arith, all .count, sound-few r sound)
-
-    few-next : (f : Fed) → total (f .decoder .counts) ≤ total (d .counts) + length (receiverOf r .waiting) → Few next (f .decoder)
-    unfolding Few
-    few-next f h =
-        let w = ap length (all .waiting) in
-        let k = ap (λ (x : rx.Demod). framing.held (x .inner .core .deframer)) (all .demod) in
-        omega (arith, few, h, w, k, all .accepted)
-
-    pub reads-to : (f : Fed) → decoders.Feeds d (take n buf′) f
-        → ReadsTo r d (record { answer = answer.Heard n (f .lines) (f .last); state = record { rx = next; decoder = f .decoder } })
-    reads-to f fed =
-        let g : decoders.Feeds d (receiverOf r .waiting) f = rw (all .bytes) at fed in
-        record {
-          answer = rw (all .count, g .lines, g .last) refl;
-          decoder = g .same ∙ holds-bytes (receiverOf r .waiting) (decoders.decoderOf d) (sound-decoder .places) few-counts;
-          demod = all .demod;
-          events = all .logged;
-          accepted = all .accepted;
-          sound = record { rx = sound-next; empty = all .waiting; decoder = g .sound; few = few-next f (g .few) };
-        }
+-- ---- what was heard, judged
+pub judges-all : (l : Listener) (d : Decoder) (hs : List Happening) (out : List ℕ) (f : Fed) (out′ : List ℕ) (n : ℕ)
+    → Judgeable d hs → decoders.Feeds d hs out f out′ → n ≡ length (bytesIn hs)
+    → JudgesAll l d hs out
+    (record { answer = answer.Heard (record { bytes = n; lines = f .lines; last = f .last }); state = record { listener = l; decoder = f .decoder } }) out′
+judges-all l d hs out f out′ n j fed p =
+    record {
+      answer = rw (p, fed .lines, fed .last) refl;
+      decoder = fed .same ∙ holds-heard hs (decoders.decoderOf d) (j .sound .places) (j .room);
+      listener = refl;
+      sound = fed .sound;
+      verdicts = fed .verdicts;
+    }
 
 -- ---- `write`
-module _ (b : Board) (s : List Float) (ok : BoardSound b) (next : Rx) where
-  same-number : plain.number (plainOf b) s ≡ rx.refusalOf (receiverOf (b .rx)) s
-  unfolding plain.number plainOf
-  same-number = ap (λ (l : List ℕ). refusedBy s (receiverOf (b .rx) .accepted) (length l)) (sym (ok .empty))
+module _ (b : Board) (s : List Float) (ok : BoardSound b) (before codes : List ℕ) (w : Listened) (hears : Hears (b .listener) s before w codes) where
+  same-number : plain.number (plainOf b) s ≡ rx.samplesRefused s (b .listener .accepted)
+  unfolding plain.number plainOf rx.samplesRefused
+  same-number = refl
 
-  pub writes-refused : (why : Refusal) → rx.wrote (acceptanceOf (Refused why)) (receiverOf next) ≡ rx.written (receiverOf (b .rx)) s
-      → Writes b s (record { answer = answer.Refused why; state = b })
-  writes-refused why e =
-      let r = write-refuses (receiverOf (b .rx)) s (receiverOf next) why e in
-      let n = same-number ∙ r .number in
-      let z : plain.number (plainOf b) s ≡ 0 → ⊥ = λ z. r .some (sym n ∙ z) in
+  pub writes-refused : (why : Refusal) → acceptanceOf (Refused why) ≡ replyOf (rx.samplesRefused s (b .listener .accepted)) → (out : List ℕ)
+      → WritesInto b s out (record { answer = answer.Refused why; state = b }) out
+  writes-refused why e out =
+      let n : plain.number (plainOf b) s ≡ numberOf why = same-number ∙ refused-by why _ e in
+      let z : plain.number (plainOf b) s ≡ 0 → ⊥ = λ z. number-some why (sym n ∙ z) in
       record {
-        answer = sym (answer-refused (plainOf b) s z ∙ ap plain.refused n);
-        state = sym (after-refused (plainOf b) s z);
-        events = sym (events-refused (plainOf b) (eventsIn b) s z);
-        sound = ok;
+        writes =
+            record {
+              answer = sym (answer-refused (plainOf b) s z ∙ ap plain.refused n);
+              state = sym (after-refused (plainOf b) s z);
+              sound = ok;
+            };
+        verdicts = sym (rw (verdicts-refused (plainOf b) s z) (laid-none out));
       }
 
-  module _ (e : rx.wrote (acceptanceOf Accepted) (receiverOf next) ≡ rx.written (receiverOf (b .rx)) s) where
-    went : Accepts (receiverOf (b .rx)) s (receiverOf next)
-    went = write-accepts (receiverOf (b .rx)) s (receiverOf next) e
-
+  module _ (z : rx.samplesRefused s (b .listener .accepted) ≡ 0) where
     none-refused : plain.number (plainOf b) s ≡ 0
-    none-refused = same-number ∙ went .number
+    none-refused = same-number ∙ z
 
-    bytes-wait : receiverOf next .waiting ≡ plain.bytesOf (plainOf b) s
-    unfolding plain.bytesOf plainOf
-    bytes-wait = went .waiting ∙ ap (λ (l : List ℕ). l ++ rx.heardBy (receiverOf (b .rx) .demod) s .bytes) (ok .empty)
+    takes : Takes (b .listener) s before (w .state) (w .count) codes
+    takes = hears .taken z
 
-    pub few-more : Few next (b .decoder)
+    pub count-few : w .count ≤ length codes
+    count-few = omega (arith, takes .few, takes .places)
+
+    heard-is : heardIn (w .count) codes ≡ plain.heardIn (plainOf b) s
+    unfolding plain.heardOf plainOf
+    heard-is = takes .heard ∙ sym (heard-accepted (plainOf b) s none-refused)
+
+    few-bytes : 10 * length (bytesIn (heardIn (w .count) codes)) + framing.held (demodOf (w .state) .inner .deframer)
+        ≤ framing.held (demodOf (b .listener) .inner .deframer) + 3 * length s
+    few-bytes = rw (takes .heard, takes .demod) (heard-few (demodOf (b .listener)) s (listener-listens (b .listener) (ok .listener)))
+
+    pub judgeable : Judgeable (b .decoder) (heardIn (w .count) codes)
     unfolding Few
-    few-more =
-        let d = receiverOf (b .rx) .demod in
-        let h = heard-few d s (sound-listens (b .rx) (ok .rx)) in
-        let w = ap length (went .waiting ∙ ap (λ (l : List ℕ). l ++ rx.heardBy d s .bytes) (ok .empty)) in
-        let k = ap (λ (x : rx.Demod). framing.held (x .inner .core .deframer)) (went .demod) in
-        omega (arith, h, w, k, went .accepted, ok .few)
+    judgeable = record { sound = ok .decoder; room = omega (arith, few-bytes, ok .few, takes .accepted, takes .sound .count) }
 
-    -- what the decoder makes of bytes
-    abbrev heard-of : List ℕ → plain.Answer
-    heard-of bs = plain.heard (length bs) (length (tide.linesIn (decoders.decoderOf (b .decoder)) bs)) (tide.lastOf 0 (tide.verdictsIn (decoders.decoderOf (b .decoder)) bs))
+    module _ (out : List ℕ) (r : Written) (out′ : List ℕ) (t : JudgesAll (w .state) (b .decoder) (heardIn (w .count) codes) out r out′) where
+      -- what the decoder makes of what was heard
+      abbrev heard-of : List Happening → plain.Answer
+      heard-of hs =
+          plain.heard (
+          record {
+            bytes = length (bytesIn hs);
+            lines = length (tide.linesIn (decoders.decoderOf (b .decoder)) hs);
+            last = tide.lastOf 0 (tide.verdictsIn (decoders.decoderOf (b .decoder)) hs);
+          })
 
-    module _ (r : Written) (t : ReadsTo next (b .decoder) r) where
       answers : answerOf (r .answer) ≡ plain.answer (plainOf b) s
-      unfolding plainOf
-      answers = t .answer ∙ ap heard-of bytes-wait ∙ sym (answer-accepted (plainOf b) s none-refused)
+      unfolding plainOf plain.summary plain.lines plain.verdicts
+      answers = t .answer ∙ ap heard-of heard-is ∙ sym (answer-accepted (plainOf b) s none-refused)
 
-      takes : plainOf (r .state) ≡ plain.took (plainOf b) s
-      unfolding plainOf plain.took
-      takes =
-          plain-same _ _ _ _ _ _ (t .demod ∙ went .demod) (t .accepted ∙ went .accepted)
-          (t .decoder ∙ ap (λ (l : List ℕ). tide.addBytes (decoders.decoderOf (b .decoder)) l) bytes-wait)
+      took : plainOf (r .state) ≡ plain.took (plainOf b) s
+      unfolding plainOf plain.took plain.heardOf
+      took =
+          plain-same _ _ _ _ _ _ (ap demodOf (t .listener) ∙ takes .demod) (ap (λ (l : Listener). l .accepted) (t .listener) ∙ takes .accepted)
+          (t .decoder ∙ ap (tide.tookAll (decoders.decoderOf (b .decoder))) (takes .heard))
 
-      notes : eventsIn (r .state) ≡ plain.eventsAfter (plainOf b) (eventsIn b) s
-      unfolding plainOf eventsIn
-      notes = t .events ∙ went .logged ∙ sym (events-accepted (plainOf b) (eventsIn b) s none-refused)
+      counts : total (r .state .decoder .counts) ≤ total (b .decoder .counts) + length (bytesIn (heardIn (w .count) codes))
+      counts =
+          let e = ap (λ (k : tide.Decoder). total (k .counts)) (t .decoder) in
+          omega (arith, e, total-heard (heardIn (w .count) codes) (decoders.decoderOf (b .decoder)) (ok .decoder .places))
 
-      pub writes-accepted : Writes b s r
-      writes-accepted = record { answer = answers; state = takes ∙ sym (after-accepted (plainOf b) s none-refused); events = notes; sound = t .sound }
+      few-next : Few (r .state .listener) (r .state .decoder)
+      unfolding Few
+      few-next =
+          let h = ap (λ (l : Listener). framing.held (demodOf l .inner .deframer)) (t .listener) in
+          let a = ap (λ (l : Listener). l .accepted) (t .listener) in
+          omega (arith, h, a, counts, few-bytes, ok .few, takes .accepted)
+
+      laid : out′ ≡ tide.laidIn (plain.verdicts (plainOf b) s) out
+      unfolding plainOf plain.verdicts
+      laid = t .verdicts ∙ ap (λ hs. tide.laidIn (tide.verdictsIn (decoders.decoderOf (b .decoder)) hs) out) heard-is
+
+      pub writes-accepted : WritesInto b s out r out′
+      writes-accepted =
+          record {
+            writes =
+                record {
+                  answer = answers;
+                  state = took ∙ sym (after-accepted (plainOf b) s none-refused);
+                  sound = record { listener = rw (t .listener) (takes .sound); decoder = t .sound; few = few-next };
+                };
+            verdicts = laid;
+          }

@@ -2,27 +2,40 @@
 use Prim.Native.Nat.{ℕ, _+_}
 use mathlib.Core.Bool.{Bool, not}
 use mathlib.Core.List.{List, [], _∷_, _++_}
-use lib.Dec.{eqb}
+use lib.Dec.{ltb, eqb}
 use lib.ListN.{length}
 use lib.Ieee.{Float}
 use Rattle.numeric.specs.If.{if_then_else_}
 use Rattle.bell103.specs.declared.Role.{Role}
 use Rattle.refusal.specs.Refusals.{Reply, replyOf, first, rateRefused}
-use Rattle.modem.specs.Queue.{loggingAll}
-use Rattle.modem.specs.Rx.{Demod, heardBy, freshDemod, admitted}
-use Rattle.modem.specs.Write.{refusedBy}
-use Rattle.tide.specs.Decoder.{Line, Decoder, freshDecoder, addBytes, linesIn, verdictsIn, lastOf}
+use Rattle.happenings.specs.Happening.{bytesIn}
+use Rattle.happenings.specs.declared.happening.Happening.{Happening}
+use Rattle.demodulation.specs.declared.kind.Kind.the-variants.{ForBoard}
+use Rattle.modem.specs.Samples.{allInRange}
+use Rattle.modem.specs.Listener.{Demod, Heard, heardBy, freshDemod, admitted}
+use Rattle.tide.specs.Judge.{Shown}
+use Rattle.tide.specs.Decoder.{Line, Decoder, freshDecoder, tookAll, linesIn, verdictsIn, lastOf}
 
 -- "State: station, receiver, samples accepted (for 31), the unended line (its first 64 characters and whether there were more),
--- reading (W and level) or none, one count for each line answer": the decoder has the station, the line, the reading and the counts
+-- reading (W and level) or none, one count for each line answer"
 pub record Plain : Type 0 where
-  pub demod : Demod
+  pub station : ℕ
+  pub receiver : Demod
   pub accepted : ℕ
-  pub decoder : Decoder
+  pub line : Line
+  pub reading : Shown
+  pub counts : List ℕ
+
+-- what collects and judges the lines: station, line, reading and counts
+abbrev pub decoder : Plain → Decoder
+decoder b = record { station = b .station; line = b .line; reading = b .reading; counts = b .counts }
+
+abbrev pub plain : Demod → ℕ → Decoder → Plain
+plain d n k = record { station = k .station; receiver = d; accepted = n; line = k .line; reading = k .reading; counts = k .counts }
 
 -- "A fresh one takes rate, station and role, and has an empty line, no reading and all counts 0"
 unfoldable pub fresh : ℕ → ℕ → Role → Plain
-fresh rate station role = record { demod = freshDemod rate role; accepted = 0; decoder = freshDecoder station }
+fresh rate station role = plain (freshDemod ForBoard rate role) 0 (freshDecoder station)
 
 -- ---- `new`
 -- "1 rate outside 8,000 to 48,000. 2 station 0"; 0 where neither applies
@@ -39,29 +52,27 @@ newOf rate station role = record { answer = replyOf (newNumber rate station); st
 
 -- ---- `write`
 -- "3 more than 1,024 samples. 4 a sample not finite or beyond ±1. 31 the call would pass 4,294,967,296 samples for this receiver"; 0 where
--- none applies. "The board reads all itself": no byte waits, and 32 is never its number (proofs/PlainLaws.antt, never-32)
+-- none applies. The board has no queue, and 32 is never its number (proofs/PlainLaws.antt, never-32)
 unfoldable pub number : Plain → List Float → ℕ
-number b s = refusedBy s (b .accepted) 0
+number b s =
+    first (ltb 1024 (length s)) 3
+    (first (not (allInRange s)) 4
+    (first (ltb 4294967296 (b .accepted + length s)) 31 0))
 
 unfoldable pub accepts : Plain → List Float → Bool
 accepts b s = eqb (number b s) 0
 
--- "bytes heard (yielded by the deframer)"
-unfoldable pub bytesOf : Plain → List Float → List ℕ
-bytesOf b s = heardBy (b .demod) s .bytes
+-- "runs the steps above": the receiver after a write, and all that happened in it, in order
+unfoldable pub heardOf : Plain → List Float → Heard
+heardOf b s = heardBy (b .receiver) s
 
--- "adds each byte to the line": the bytes that a write adds, none where it is refused
-unfoldable pub heardIn : Plain → List Float → List ℕ
-heardIn b s = if accepts b s then bytesOf b s else []
+-- what happened in a write, and nothing where it is refused
+unfoldable pub heardIn : Plain → List Float → List Happening
+heardIn b s = if accepts b s then heardOf b s .happenings else []
 
 -- an accepted write "runs the steps above, deframes the sliced bits and adds each byte to the line"
 unfoldable pub took : Plain → List Float → Plain
-took b s =
-    record {
-      demod = heardBy (b .demod) s .after;
-      accepted = b .accepted + length s;
-      decoder = addBytes (b .decoder) (bytesOf b s);
-    }
+took b s = plain (heardOf b s .after) (b .accepted + length s) (tookAll (decoder b) (heardOf b s .happenings))
 
 -- "A refused write gives its number alone and changes nothing"
 unfoldable pub after : Plain → List Float → Plain
@@ -69,30 +80,35 @@ after b s = if accepts b s then took b s else b
 
 -- the lines that a write ends, and the answers that they get
 unfoldable pub lines : Plain → List Float → List Line
-lines b s = if accepts b s then linesIn (b .decoder) (bytesOf b s) else []
+lines b s = linesIn (decoder b) (heardIn b s)
 
 unfoldable pub verdicts : Plain → List Float → List ℕ
-verdicts b s = if accepts b s then verdictsIn (b .decoder) (bytesOf b s) else []
+verdicts b s = verdictsIn (decoder b) (heardIn b s)
 
--- "A refused write gives its number alone. An accepted write's answer gives bytes heard, lines ended (judged) and the last line's answer
--- (0 also when none ended), all of that write alone"
+-- "bytes heard (yielded by the deframer), lines ended (judged) and the last line's answer (0 also when none ended), all of that write alone"
+pub record Summary : Type 0 where
+  pub bytes : ℕ
+  pub lines : ℕ
+  pub last : ℕ
+
+unfoldable pub summary : Plain → List Float → Summary
+summary b s = record { bytes = length (bytesIn (heardIn b s)); lines = length (lines b s); last = lastOf 0 (verdicts b s) }
+
+-- "A refused write gives its number alone. An accepted write's answer gives" its summary
 pub data Answer : Type 0 where
   refused : ℕ → Answer
-  heard : ℕ → ℕ → ℕ → Answer
+  heard : Summary → Answer
 
 unfoldable pub answer : Plain → List Float → Answer
-answer b s =
-    if accepts b s
-    then heard (length (bytesOf b s)) (length (lines b s)) (lastOf 0 (verdicts b s))
-    else refused (number b s)
+answer b s = if accepts b s then heard (summary b s) else refused (number b s)
 
 -- ---- a list of writes, each on the board as the one before left it
 unfoldable pub afterAll : Plain → List (List Float) → Plain
 afterAll b [] = b
 afterAll b (s ∷ ws) = afterAll (after b s) ws
 
--- all bytes heard in them
-unfoldable pub heardAll : Plain → List (List Float) → List ℕ
+-- all that happened in them
+unfoldable pub heardAll : Plain → List (List Float) → List Happening
 heardAll b [] = []
 heardAll b (s ∷ ws) = heardIn b s ++ heardAll (after b s) ws
 
@@ -114,12 +130,4 @@ answersAll b (s ∷ ws) = answer b s ∷ answersAll (after b s) ws
 unfoldable pub endedIn : List Answer → ℕ
 endedIn [] = 0
 endedIn (refused n ∷ l) = endedIn l
-endedIn (heard bytes ended last ∷ l) = ended + endedIn l
-
--- ---- the carrier events that wait in the receiver: the board gives none of them out, and nothing above depends on them
-unfoldable pub eventsAfter : Plain → List Bool → List Float → List Bool
-eventsAfter b logged s = if accepts b s then loggingAll logged (heardBy (b .demod) s .events) else logged
-
-unfoldable pub eventsAll : Plain → List Bool → List (List Float) → List Bool
-eventsAll b logged [] = logged
-eventsAll b logged (s ∷ ws) = eventsAll (after b s) (eventsAfter b logged s) ws
+endedIn (heard x ∷ l) = x .lines + endedIn l

@@ -7,9 +7,9 @@ use lib.Ieee.{Float}
 use Rattle.refusal.specs.Refusals.{acceptanceOf}
 use Rattle.bell103.specs.declared.Role.{Role}
 use Rattle.refusal.specs.declared.Acceptance.the-variants.{Accepted}
-use Rattle.board.specs.Plain.{Plain, eventsAfter, eventsAll, Answer, refused, heard, fresh, after, answer, afterAll, answersAll, newNumber, newOf}
+use Rattle.board.specs.Plain.{Plain, Answer, refused, heard, fresh, after, answer, afterAll, answersAll, newNumber, newOf}
 use Rattle.board.specs.Term.{Term3}
-use Rattle.board.specs.BoardRep.{plainOf, eventsIn, BoardSound}
+use Rattle.board.specs.BoardRep.{plainOf, BoardSound}
 use Rattle.board.specs.declared.board.Board.{Board}
 use Rattle.board.specs.declared.writes.Place.{Place}
 use Rattle.board.specs.declared.writes.Listened.{Listened}
@@ -19,10 +19,14 @@ unfoldable pub writesOf : List Float → List ℕ → List (List Float)
 writesOf s [] = []
 writesOf s (n ∷ ns) = take n s ∷ writesOf (drop n s) ns
 
--- an answer's four numbers: the refusal, 0 where there is none; bytes heard, lines ended and the last line's answer, 0 where it is refused
+-- how many numbers an answer has
+abbrev pub width : ℕ
+width = 4
+
+-- they are: the refusal, 0 where there is none; bytes heard, lines ended and the last line's answer, 0 where it is refused
 abbrev pub numbersOf : Answer → List ℕ
 numbersOf (refused n) = n ∷ 0 ∷ 0 ∷ 0 ∷ []
-numbersOf (heard bytes lines last) = 0 ∷ bytes ∷ lines ∷ last ∷ []
+numbersOf (heard x) = 0 ∷ x .bytes ∷ x .lines ∷ x .last ∷ []
 
 unfoldable pub numbersAll : List Answer → List ℕ
 numbersAll [] = []
@@ -30,11 +34,11 @@ numbersAll (a ∷ said) = numbersOf a ++ numbersAll said
 
 -- an answer's numbers at place `at` of a list, all else as it was
 abbrev pub putAt : ℕ → List ℕ → List ℕ → List ℕ
-putAt at numbers before = take at before ++ (numbers ++ drop (at + 4) before)
+putAt at numbers before = take at before ++ (numbers ++ drop (at + width) before)
 
--- how many writes are run: as many as have a length, and room for four numbers
+-- how many writes are run: as many as have a length, and room for its numbers
 abbrev pub writesRun : List ℕ → List ℕ → ℕ
-writesRun lengths answers = min (length lengths) (length answers / 4)
+writesRun lengths answers = min (length lengths) (length answers / width)
 
 -- ---- in the code
 -- the board, and how many of the samples are behind it
@@ -45,7 +49,6 @@ pub record Within (p : Place) (s : List Float) : Type 0 where
 -- a write of n samples leads from p to q, and its answer's numbers stand at `at` of the answers
 pub record Stepped (p q : Place) (n : ℕ) (s : List Float) (at : ℕ) (before after′ : List ℕ) : Type 0 where
   pub state : plainOf (q .board) ≡ after (plainOf (p .board)) (take n (drop (p .read) s))
-  pub events : eventsIn (q .board) ≡ eventsAfter (plainOf (p .board)) (eventsIn (p .board)) (take n (drop (p .read) s))
   pub left : drop (q .read) s ≡ drop n (drop (p .read) s)
   pub answers : after′ ≡ putAt at (numbersOf (answer (plainOf (p .board)) (take n (drop (p .read) s)))) before
   pub within : Within q s
@@ -55,8 +58,7 @@ pub record RunFrom (b₀ : Board) (s : List Float) (ns before : List ℕ) (r : L
   pub answer : r .answer ≡ Accepted
   pub writes : r .writes ≡ writesRun ns before
   pub state : plainOf (r .state) ≡ afterAll (plainOf b₀) (writesOf s (take (r .writes) ns))
-  pub events : eventsIn (r .state) ≡ eventsAll (plainOf b₀) (eventsIn b₀) (writesOf s (take (r .writes) ns))
-  pub answers : after′ ≡ numbersAll (answersAll (plainOf b₀) (writesOf s (take (r .writes) ns))) ++ drop (4 * r .writes) before
+  pub answers : after′ ≡ numbersAll (answersAll (plainOf b₀) (writesOf s (take (r .writes) ns))) ++ drop (width * r .writes) before
   pub sound : BoardSound (r .state)
 
 -- ---- `listen`
@@ -65,15 +67,13 @@ pub record Runs (b₀ : Plain) (s : List Float) (ns before : List ℕ) (r : List
   pub writes : r .writes ≡ writesRun ns before
   pub said : List Answer
   pub term : Term3 b₀ (writesOf s (take (r .writes) ns)) (plainOf (r .state)) said
-  pub answers : after′ ≡ numbersAll said ++ drop (4 * r .writes) before
-  pub events : eventsIn (r .state) ≡ eventsAll b₀ [] (writesOf s (take (r .writes) ns))
+  pub answers : after′ ≡ numbersAll said ++ drop (width * r .writes) before
 
 -- nothing is run, the state is what `new` gives, and the answers are as they were
 pub record NotRun (b₀ : Plain) (before : List ℕ) (r : Listened) (after′ : List ℕ) : Type 0 where
   pub writes : r .writes ≡ 0
   pub state : plainOf (r .state) ≡ b₀
   pub answers : after′ ≡ before
-  pub events : eventsIn (r .state) ≡ []
 
 -- `new`, and where it refuses nothing the list of writes
 pub record Listens (rate station : ℕ) (role : Role) (s : List Float) (ns before : List ℕ) (r : Listened) (after′ : List ℕ) : Type 0 where

@@ -9,9 +9,9 @@ use lib.ListN.{length, getD, drop}
 use lib.Ieee.{Float}
 use Rattle.hexadecimal.specs.Hex.{hexLine, total}
 use Rattle.tide.specs.Frame.{readerOf, Intact, Writer, Rules, bitsOf, lineBy}
-use Rattle.tide.specs.Judge.{Shown, none, shows, Verdict, judge, settle, ofFields, ofLine, Passes}
+use Rattle.tide.specs.Judge.{Reading, Shown, none, shows, Verdict, judge, settle, ofFields, Passes}
 use Rattle.tide.specs.Decoder.{Line, Decoder, IsAnswer, countOf, verdict, shownOn, answersOn, times, goods, AtMost, Best}
-use Rattle.board.specs.Plain.{Plain, Answer, afterAll, linesAll, verdictsAll, answersAll, endedIn}
+use Rattle.board.specs.Plain.{Plain, decoder, Answer, afterAll, linesAll, verdictsAll, answersAll, endedIn}
 
 -- ---- the lines judged, in order
 -- what a board of station `mine` shows when it has judged these lines since fresh, and the answers that it gave them
@@ -28,7 +28,7 @@ lineOf chars = record { chars = chars; more = false }
 -- what a board of station `mine` that shows r makes of a line for readers from 1 on: its station, stamp, age and level are all that counts.
 -- "So a line for readers from 1 on gets the first of 18, 19, 20 and 34 that applies, else 0"
 unfoldable pub onFields : ℕ → Shown → ℕ → ℕ → ℕ → ℤ → Verdict
-onFields mine r station stamp age level = settle (ofFields mine station stamp age (bitsOf level)) r (stamp - age) level
+onFields mine r station stamp age level = settle (ofFields mine station stamp age (bitsOf level)) r (record { water = stamp - age; level = level })
 
 -- the line l, judged after the lines ls, got this verdict: the answer at its place in the list, and what stands after it
 pub record JudgedAs (mine : ℕ) (answers : List ℕ) (ls : List Line) (l : Line) (v : Verdict) : Type 0 where
@@ -52,34 +52,34 @@ pub record Term3 (fresh : Plain) (ws : List (List Float)) (b : Plain) (said : Li
   pub answers : said ≡ answersAll fresh ws
   -- the reading is the good line with the greatest water minute, the earliest among equals: "greater than that of every good line judged
   -- before it", and at least that of every one behind it
-  pub reading : Best (goods (fresh .decoder .station) (linesAll fresh ws)) (b .decoder .reading)
+  pub reading : Best (goods (fresh .station) (linesAll fresh ws)) (b .reading)
   -- the board shows nothing exactly when no good line was judged
-  pub empty : (b .decoder .reading ≡ none) ↔ (goods (fresh .decoder .station) (linesAll fresh ws) ≡ [])
+  pub empty : (b .reading ≡ none) ↔ (goods (fresh .station) (linesAll fresh ws) ≡ [])
   -- "The reading's W is at least that of every other good line judged since fresh"
-  pub greatest : (w : ℕ) (v : ℤ) → b .decoder .reading ≡ shows w v → AtMost w (goods (fresh .decoder .station) (linesAll fresh ws))
+  pub greatest : (r : Reading) → b .reading ≡ shows r → AtMost (r .water) (goods (fresh .station) (linesAll fresh ws))
   -- "one count for each line answer": the number of times that it was given
-  pub counts : (n : ℕ) → IsAnswer n → countOf (b .decoder) n ≡ times n (verdictsAll fresh ws)
+  pub counts : (n : ℕ) → IsAnswer n → countOf (decoder b) n ≡ times n (verdictsAll fresh ws)
   -- "Lines judged since fresh = lines ended, summed over the accepted writes"
   pub ended : length (linesAll fresh ws) ≡ endedIn said
   -- "= shown (answer 0) + sum of the other counts"
-  pub judged : length (linesAll fresh ws) ≡ countOf (b .decoder) 0 + total (drop 1 (b .decoder .counts))
+  pub judged : length (linesAll fresh ws) ≡ countOf (decoder b) 0 + total (drop 1 (b .counts))
   -- the answers are those of the lines, "judged and emptied" one after the other
-  pub verdicts : verdictsAll fresh ws ≡ given (fresh .decoder .station) (linesAll fresh ws)
+  pub verdicts : verdictsAll fresh ws ≡ given (fresh .station) (linesAll fresh ws)
   -- and so is the reading
-  pub shown : b .decoder .reading ≡ stands (fresh .decoder .station) (linesAll fresh ws)
+  pub shown : b .reading ≡ stands (fresh .station) (linesAll fresh ws)
   -- each judged line at its place: its answer, and what stands after it, from what stood before it
   pub each :
       (ls rs : List Line) (l : Line) → linesAll fresh ws ≡ ls ++ l ∷ rs
-      → JudgedAs (fresh .decoder .station) (verdictsAll fresh ws) ls l (judge (fresh .decoder .station) (stands (fresh .decoder .station) ls) (l .chars) (l .more))
+      → JudgedAs (fresh .station) (verdictsAll fresh ws) ls l (judge (fresh .station) (stands (fresh .station) ls) (l .chars) (l .more))
   -- each judged line that a writer of any version 1 to 255 wrote for readers from 1 on, "whatever its later bytes": judged on station, stamp,
   -- age and level alone
   pub fields :
       (ls rs : List Line) (w : Writer) → linesAll fresh ws ≡ ls ++ lineOf (lineBy w) ∷ rs → Rules w → w .reader ≡ 1
-      → JudgedAs (fresh .decoder .station) (verdictsAll fresh ws) ls (lineOf (lineBy w))
-      (onFields (fresh .decoder .station) (stands (fresh .decoder .station) ls) (w .station) (w .stamp) (w .age) (w .level))
+      → JudgedAs (fresh .station) (verdictsAll fresh ws) ls (lineOf (lineBy w))
+      (onFields (fresh .station) (stands (fresh .station) ls) (w .station) (w .stamp) (w .age) (w .level))
   -- "A line that passes 11 to 16 is intact": each judged line that does is one that some writer wrote, so that none is left out above and below
   pub written :
-      (ls rs : List Line) (l : Line) → linesAll fresh ws ≡ ls ++ l ∷ rs → Passes (ofLine (fresh .decoder .station) (l .chars) (l .more))
+      (ls rs : List Line) (l : Line) → linesAll fresh ws ≡ ls ++ l ∷ rs → Passes (l .chars) (l .more)
       → (w : Writer) × Rules w × (l ≡ lineOf (lineBy w))
   -- two such lines alike in these, on boards alike in station and reading: one answer, and one reading after it
   pub alike :
@@ -89,5 +89,5 @@ pub record Term3 (fresh : Plain) (ws : List (List Float)) (b : Plain) (said : Li
   -- once more
   pub newer :
       (ls rs : List Line) (f : List ℕ) → linesAll fresh ws ≡ ls ++ lineOf (hexLine f) ∷ rs → Intact f → 1 < readerOf f
-      → JudgedAs (fresh .decoder .station) (verdictsAll fresh ws) ls (lineOf (hexLine f)) (record { answer = 17; reading = stands (fresh .decoder .station) ls })
-      × (times 17 (given (fresh .decoder .station) (ls ++ lineOf (hexLine f) ∷ [])) ≡ times 17 (given (fresh .decoder .station) ls) + 1)
+      → JudgedAs (fresh .station) (verdictsAll fresh ws) ls (lineOf (hexLine f)) (record { answer = 17; reading = stands (fresh .station) ls })
+      × (times 17 (given (fresh .station) (ls ++ lineOf (hexLine f) ∷ [])) ≡ times 17 (given (fresh .station) ls) + 1)

@@ -1,23 +1,25 @@
-// The board: the receiver, and the decoder that judges the lines.
+// The board: what hears, and the decoder that judges the lines.
 use crate::counts::sum_of;
 use crate::station::check_station;
 use bell103::Role;
-use modem::Rx;
+use happenings::bytes_in;
+use modem::Kind;
+use modem::Listener;
 use refusal::Acceptance;
 use refusal::Refusal;
 use tide::Decoder;
-use tide::Reading;
+use tide::Shown;
 ghost use mathlib.Core.Path.{_≡_};
-ghost use lib.ListN.{length};
-ghost use Rattle.modem.specs.RxRep.{RxSound};
+ghost use Rattle.happenings.specs.Codes.{Codes};
+ghost use Rattle.happenings.specs.Happening.{happeningsOf};
 ghost use Rattle.hexadecimal.specs.Hex.{total};
 ghost use Rattle.tide.specs.JudgeRep.{shownOf};
-ghost use Rattle.tide.specs.DecoderRep.{Sound};
 ghost use Rattle.tide.specs.Decoder.{countOf};
-ghost use Rattle.board.specs.BoardRep.{plainOf, BoardSound, Makes, Writes, ReadsTo, Few};
+ghost use Rattle.board.specs.Plain.{decoder};
+ghost use Rattle.board.specs.BoardRep.{plainOf, BoardSound, Makes, Writes, WritesInto, Judgeable, JudgesAll};
 
 pub struct Board {
-    rx: Rx,
+    listener: Listener,
     decoder: Decoder,
 }
 
@@ -27,10 +29,17 @@ pub struct Created {
     pub state: Board,
 }
 
-// What `write` answers: why it is refused; or bytes heard, lines ended, and the last one's answer, 0 also when none ended.
+// Of an accepted write: bytes heard, lines ended, and the last one's answer, 0 also when none ended.
+pub struct Summary {
+    pub bytes: u64,
+    pub lines: u64,
+    pub last: u8,
+}
+
+// What `write` answers: why it is refused, or its summary.
 pub enum Answer {
     Refused(Refusal),
-    Heard { bytes: u64, lines: u64, last: u8 },
+    Heard(Summary),
 }
 
 pub struct Written {
@@ -38,70 +47,86 @@ pub struct Written {
     pub state: Board,
 }
 
-fn zeros_512() -> [u8; 512]
-    ensures { λ r. ⌜ length r ≡ 512 ⌝ }
+fn no_codes() -> [u16; 2052]
+    ensures { λ r. ⌜ Codes r ⌝ }
 {
-    [0u8; 512]
+    [0u16; 2052]
 }
 
-// Reads all bytes that wait, and hands them to the decoder.
-fn read_all(rx: Rx, decoder: Decoder) -> Written
-    requires { ⌜ RxSound rx × Sound decoder × Few rx decoder ⌝ }
-    ensures { λ r. ⌜ ReadsTo rx decoder r ⌝ }
+fn no_verdicts() -> [u8; 1] {
+    [0u8; 1]
+}
+
+// Hands what was heard to the decoder, in order.
+fn judge_all(listener: Listener, decoder: Decoder, codes: &[u16], verdicts: &mut [u8]) -> Written
+    requires { ⌜ Judgeable decoder (happeningsOf (now codes)) ⌝ }
+    ensures { λ r. ⌜ JudgesAll listener decoder (happeningsOf (now (codes .entry))) (now (verdicts .entry)) r (now (verdicts .exit)) ⌝ }
 {
-    let mut buf = zeros_512();
-    let r = rx.read(&mut buf);
-    let count = r.count;
-    let next = r.state;
-    let f = decoder.feed(&buf[..count]);
+    let f = decoder.feed(codes, verdicts);
+    let bytes = bytes_in(codes);
     let judged = f.decoder;
     let state = Board {
-        rx: next,
+        listener,
         decoder: judged,
     };
-    let answer = Answer::Heard {
-        bytes: count as u64,
+    let heard = Summary {
+        bytes: bytes as u64,
         lines: f.lines,
         last: f.last,
     };
-    Written { answer, state }
+    Written {
+        answer: Answer::Heard(heard),
+        state,
+    }
 }
 
 impl Board {
     pub fn new(rate: u32, station: u16, role: Role) -> Created
         ensures { λ r. ⌜ Makes rate station role r ⌝ }
     {
-        let made = Rx::new(rate, role);
-        let rx = made.state;
+        let made = Listener::new(Kind::ForBoard, rate, role);
+        let listener = made.state;
         let first = made.answer;
         let decoder = Decoder::new(station);
         let answer = check_station(first, station);
-        let state = Board { rx, decoder };
+        let state = Board { listener, decoder };
         Created { answer, state }
     }
 
-    // The next samples, in order and gapless.
-    pub fn write(self, samples: &[f32]) -> Written
+    // The next samples, in order and gapless; the answers of the lines that they end go to the front of `verdicts`, as many as have room there.
+    // 103 places are enough for any write. Refused, it leaves them as they were.
+    pub fn write_into(self, samples: &[f32], verdicts: &mut [u8]) -> Written
         requires { ⌜ BoardSound self ⌝ }
-        ensures { λ r. ⌜ Writes self (now (samples .entry)) r ⌝ }
+        ensures { λ r. ⌜ WritesInto self (now (samples .entry)) (now (verdicts .entry)) r (now (verdicts .exit)) ⌝ }
     {
-        let rx = self.rx;
+        let listener = self.listener;
         let decoder = self.decoder;
-        let w = rx.write(samples);
+        let mut codes = no_codes();
+        let w = listener.hear(samples, &mut codes);
         let first = w.answer;
         let next = w.state;
+        let count = w.count;
         match first {
             Acceptance::Refused(why) => Written {
                 answer: Answer::Refused(why),
                 state: self,
             },
-            Acceptance::Accepted => read_all(next, decoder),
+            Acceptance::Accepted => judge_all(next, decoder, &codes[..count], verdicts),
         }
     }
 
+    // The same, for a caller that wants no more than the last line's answer.
+    pub fn write(self, samples: &[f32]) -> Written
+        requires { ⌜ BoardSound self ⌝ }
+        ensures { λ r. ⌜ Writes self (now (samples .entry)) r ⌝ }
+    {
+        let mut verdicts = no_verdicts();
+        self.write_into(samples, &mut verdicts)
+    }
+
     // What the board shows: nothing, or the water minute and the level.
-    pub fn reading(self) -> Reading
-        ensures { λ r. ⌜ shownOf r ≡ plainOf self .decoder .reading ⌝ }
+    pub fn reading(self) -> Shown
+        ensures { λ r. ⌜ shownOf r ≡ plainOf self .reading ⌝ }
     {
         let decoder = self.decoder;
         decoder.reading()
@@ -110,7 +135,7 @@ impl Board {
     // How often a line got this answer; 0 for a number that is no answer of a line.
     pub fn count(self, answer: u8) -> u64
         requires { ⌜ BoardSound self ⌝ }
-        ensures { λ r. ⌜ r ≡ countOf (plainOf self .decoder) answer ⌝ }
+        ensures { λ r. ⌜ r ≡ countOf (decoder (plainOf self)) answer ⌝ }
     {
         let decoder = self.decoder;
         decoder.count(answer)
@@ -118,7 +143,7 @@ impl Board {
 
     // How often each answer was given: 0, 11 to 20, 34.
     pub fn counts(self) -> [u64; 12]
-        ensures { λ r. ⌜ r ≡ plainOf self .decoder .counts ⌝ }
+        ensures { λ r. ⌜ r ≡ plainOf self .counts ⌝ }
     {
         let decoder = self.decoder;
         decoder.counts()
@@ -127,7 +152,7 @@ impl Board {
     // How many lines were judged since fresh.
     pub fn judged(self) -> u64
         requires { ⌜ BoardSound self ⌝ }
-        ensures { λ r. ⌜ r ≡ total (plainOf self .decoder .counts) ⌝ }
+        ensures { λ r. ⌜ r ≡ total (plainOf self .counts) ⌝ }
     {
         let decoder = self.decoder;
         sum_of(decoder.counts())
@@ -135,7 +160,7 @@ impl Board {
 
     // The station that the board reads for.
     pub fn station(self) -> u16
-        ensures { λ r. ⌜ r ≡ plainOf self .decoder .station ⌝ }
+        ensures { λ r. ⌜ r ≡ plainOf self .station ⌝ }
     {
         let decoder = self.decoder;
         decoder.station()

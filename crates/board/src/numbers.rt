@@ -3,9 +3,11 @@ ghost use mathlib.Core.Path.{_≡_};
 ghost use mathlib.Core.List.{[], _∷_};
 ghost use Prim.Native.Nat.{min, _+_, _/_, _≤_};
 ghost use lib.ListN.{length};
-ghost use Rattle.board.specs.Runs.{putAt};
+ghost use Rattle.board.specs.Runs.{width, putAt};
 
-// An answer's four numbers.
+// How many numbers an answer has.
+pub const WIDTH: usize = 4;
+
 pub struct Numbers {
     pub number: u32,
     pub bytes: u64,
@@ -13,9 +15,9 @@ pub struct Numbers {
     pub last: u8,
 }
 
-// Writes the four numbers at `at`.
+// Writes them at `at`.
 pub fn tell(answers: &mut [u64], at: usize, t: Numbers)
-    requires { ⌜ at + 4 ≤ length (now answers) ⌝ }
+    requires { ⌜ at + width ≤ length (now answers) ⌝ }
     ensures { λ _. ⌜ now (answers .exit) ≡ putAt at (t .number ∷ t .bytes ∷ t .lines ∷ t .last ∷ []) (now (answers .entry)) ⌝ }
 {
     answers[at] = t.number as u64;
@@ -24,9 +26,13 @@ pub fn tell(answers: &mut [u64], at: usize, t: Numbers)
     answers[at + 3] = t.last as u64;
 }
 
-// How many of the writes have room for four numbers.
+// How many of the writes have room for their numbers.
 pub fn writes_in(writes: usize, room: usize) -> usize
-    ensures { λ r. ⌜ r ≡ min writes (room / 4) ⌝ }
+    ensures { λ r. ⌜ r ≡ min writes (room / width) ⌝ }
 {
-    if writes < room / 4 { writes } else { room / 4 }
+    if writes < room / WIDTH {
+        writes
+    } else {
+        room / WIDTH
+    }
 }

@@ -2,6 +2,7 @@
 use crate::board::Answer;
 use crate::board::Board;
 use crate::numbers::Numbers;
+use crate::numbers::WIDTH;
 use crate::numbers::tell;
 use crate::numbers::writes_in;
 use bell103::Role;
@@ -12,7 +13,7 @@ ghost use mathlib.Core.List.{[], _∷_};
 ghost use Prim.Native.Nat.{_+_, _≤_};
 ghost use lib.ListN.{length};
 ghost use Rattle.board.specs.BoardRep.{answerOf, BoardSound};
-ghost use Rattle.board.specs.Runs.{numbersOf, Within, Stepped, RunFrom, Listens};
+ghost use Rattle.board.specs.Runs.{width, numbersOf, Within, Stepped, RunFrom, Listens};
 
 // What `listen` answers: `new`'s answer, how many writes it ran, and the board after them.
 pub struct Listened {
@@ -31,11 +32,11 @@ fn numbers_of(answer: Answer) -> Numbers
             lines: 0,
             last: 0,
         },
-        Answer::Heard { bytes, lines, last } => Numbers {
+        Answer::Heard(x) => Numbers {
             number: 0,
-            bytes,
-            lines,
-            last,
+            bytes: x.bytes,
+            lines: x.lines,
+            last: x.last,
         },
     }
 }
@@ -46,9 +47,9 @@ struct Place {
     read: usize,
 }
 
-// One write, and its four numbers at `at` of the answers.
+// One write, and its numbers at `at` of the answers.
 fn one_write(p: Place, samples: &[f32], n: u32, answers: &mut [u64], at: usize) -> Place
-    requires { ⌜ Within p (now samples) × (at + 4 ≤ length (now answers)) ⌝ }
+    requires { ⌜ Within p (now samples) × (at + width ≤ length (now answers)) ⌝ }
     ensures { λ r. ⌜ Stepped p r n (now (samples .entry)) at (now (answers .entry)) (now (answers .exit)) ⌝ }
 {
     let board = p.board;
@@ -74,7 +75,7 @@ fn all_writes(board: Board, samples: &[f32], lengths: &[u32], answers: &mut [u64
     let mut place = Place { board, read: 0 };
     let mut i = 0;
     while i < writes {
-        place = one_write(place, samples, lengths[i], answers, 4 * i);
+        place = one_write(place, samples, lengths[i], answers, WIDTH * i);
         i += 1;
     }
     let state = place.board;
@@ -85,8 +86,8 @@ fn all_writes(board: Board, samples: &[f32], lengths: &[u32], answers: &mut [u64
     }
 }
 
-// The third term: a fresh board, and one write for each length. A write takes the next samples, or what is left of them, and puts four numbers
-// into the answers; as many are run as have room. Refused, it leaves the answers as they were.
+// The third term: a fresh board, and one write for each length. A write takes the next samples, or what is left of them, and puts its
+// numbers into the answers; as many are run as have room. Refused, it leaves the answers as they were.
 pub fn listen(
     rate: u32,
     station: u16,

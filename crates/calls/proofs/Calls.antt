@@ -33,7 +33,7 @@ after-start r = rw (zero-add (r .calls))
 -- ---- no more than was written
 pub count-within : (s : State) (xs out : List Float) → countIn (processed s xs out .answer) ≤ length (processed s xs out .out)
 unfolding processed
-count-within s xs out = by (refusalOf s (length xs) (length out)) (ranOver s (length out) xs)
+count-within s xs out = by (refusalOf s xs out) (ranOver s (length out) xs)
   where
     by : (k : ℕ) (r : Ran) → countIn (unlessRefused k s out (laid s out r) .answer) ≤ length (unlessRefused k s out (laid s out r) .out)
     by zero r = rw length-append (omega arith)

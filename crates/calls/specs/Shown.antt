@@ -12,11 +12,11 @@ use Rattle.board.specs.Plain.{Plain}
 -- what a board shows, as three numbers: 1, its water minute and the sixteen bits of its level; or three times 0
 abbrev pub shownNumbers : Shown → List ℕ
 shownNumbers none = 0 ∷ 0 ∷ 0 ∷ []
-shownNumbers (shows w v) = 1 ∷ w ∷ bitsOf v ∷ []
+shownNumbers (shows r) = 1 ∷ r .water ∷ bitsOf (r .level) ∷ []
 
 -- and its twelve counts behind them: of the answers 0, 11 to 20 and 34
 abbrev pub boardNumbers : Plain → List ℕ
-boardNumbers b = shownNumbers (b .decoder .reading) ++ b .decoder .counts
+boardNumbers b = shownNumbers (b .reading) ++ b .counts
 
 -- they go to the front of the lent numbers, if `new` refused nothing and there is room for fifteen
 abbrev pub shownIn : ℕ → Plain → List ℕ → List ℕ

@@ -1,6 +1,6 @@
 // What a board shows, as numbers in a lent slice.
 use board::Board;
-use tide::Reading;
+use tide::Shown;
 ghost use mathlib.Core.Path.{_≡_};
 ghost use mathlib.Core.List.{[], _∷_, _++_};
 ghost use Prim.Native.Nat.{_≤_};
@@ -28,19 +28,19 @@ struct ShownNumbers {
     level: u64,
 }
 
-fn shown_numbers(r: Reading) -> ShownNumbers
+fn shown_numbers(r: Shown) -> ShownNumbers
     ensures { λ n. ⌜ n .shown ∷ n .water ∷ n .level ∷ [] ≡ shownNumbers (shownOf r) ⌝ }
 {
     match r {
-        Reading::None => ShownNumbers {
+        Shown::None => ShownNumbers {
             shown: 0,
             water: 0,
             level: 0,
         },
-        Reading::Shows { water, level } => ShownNumbers {
+        Shown::Shows(reading) => ShownNumbers {
             shown: 1,
-            water: water as u64,
-            level: level_bits(level),
+            water: reading.water as u64,
+            level: level_bits(reading.level),
         },
     }
 }

@@ -2,40 +2,43 @@
 use Prim.Native.Nat.{ℕ, _+_, _≤_, _<_, min}
 use mathlib.Core.Path.{_≡_, refl, sym, ap, _∙_}
 use mathlib.Core.Logic.{_⊎_, inl, inr}
-use mathlib.Core.Bool.{Bool, true, false}
+use mathlib.Core.Bool.{true, false}
 use mathlib.Core.List.{List, [], _∷_, _++_}
-use lib.Dec.{eqb}
 use lib.ListN.{length, getD, drop}
 use lib.Seq.{drop-cons, drop-length}
 use native.Mathlib.Nat.{min-eq-left, min-eq-right}
 use native.Mathlib.Numerals.{add-one}
 use native.Mathlib.Omega.{arith}
 use Rattle.numeric.specs.If.{if_then_else_}
+use Rattle.happenings.specs.Happening.{typed}
+use Rattle.happenings.specs.declared.happening.Happening.the-variants.{Byte}
 use Rattle.tide.specs.Decoder as plain
-use Rattle.tide.specs.DecoderRep.{decoderOf, mostCount, holding, Sound, Stepped}
-use Rattle.tide.proofs.DecoderRepLaws.{min-by, holding-bytes, holding-lines, unheld}
+use Rattle.tide.specs.DecoderRep.{decoderOf, mostCount, holding, Sound, isEnd, Stepped}
+use Rattle.tide.proofs.DecoderRepLaws.{min-by, holding-heard, holding-lines, unheld}
 use Rattle.tide.specs.declared.decoder.Step.{Step}
 use Rattle.console.specs.Text.{Taken, Read}
 use Rattle.console.specs.declared.text.Text.{Text}
 
-pub taken-end : (t : Text) (c k : ℕ) (s : Step) → Stepped (t .decoder) c s → s .ended ≡ true → k ≡ min (t .lines + 1) mostCount
+pub taken-end : (t : Text) (c k : ℕ) (s : Step) → Stepped (t .decoder) (plain.moveOf (Byte c)) s → s .ended ≡ true → k ≡ min (t .lines + 1) mostCount
     → Taken t c (record { decoder = s .decoder; lines = k })
+unfolding plain.took
 taken-end t c k s h e n =
-    let b : eqb c 10 ≡ true = sym (h .ended) ∙ e in
+    let b : isEnd (plain.moveOf (Byte c)) ≡ true = sym (h .ended) ∙ e in
     record { decoder = h .same; lines = rw b n; sound = h .sound }
 
-pub taken-on : (t : Text) (c : ℕ) (s : Step) → Stepped (t .decoder) c s → s .ended ≡ false
+pub taken-on : (t : Text) (c : ℕ) (s : Step) → Stepped (t .decoder) (plain.moveOf (Byte c)) s → s .ended ≡ false
     → Taken t c (record { decoder = s .decoder; lines = t .lines })
+unfolding plain.took
 taken-on t c s h e =
-    let b : eqb c 10 ≡ false = sym (h .ended) ∙ e in
+    let b : isEnd (plain.moveOf (Byte c)) ≡ false = sym (h .ended) ∙ e in
     record { decoder = h .same; lines = rw b refl; sound = h .sound }
 
 -- part of the way through the block
 pub record Going (t : Text) (bs : List ℕ) (i : ℕ) (r : Text) : Type 0 where
-  pub decoder : holding (plain.addBytes (decoderOf (r .decoder)) (drop i bs)) ≡ holding (plain.addBytes (decoderOf (t .decoder)) bs)
+  pub decoder : holding (plain.tookAll (decoderOf (r .decoder)) (typed (drop i bs))) ≡ holding (plain.tookAll (decoderOf (t .decoder)) (typed bs))
   pub lines :
-      min (r .lines + length (plain.linesIn (decoderOf (r .decoder)) (drop i bs))) mostCount
-      ≡ min (t .lines + length (plain.linesIn (decoderOf (t .decoder)) bs)) mostCount
+      min (r .lines + length (plain.linesIn (decoderOf (r .decoder)) (typed (drop i bs)))) mostCount
+      ≡ min (t .lines + length (plain.linesIn (decoderOf (t .decoder)) (typed bs))) mostCount
   pub sound : Sound (r .decoder)
 
 pub going-start : (t : Text) (bs : List ℕ) → Sound (t .decoder) → Going t bs 0 t
@@ -52,30 +55,31 @@ min-add a k m = by (min-by a m)
         let q : m ≤ a + k = omega (arith, h .0) in
         rw (h .1) (min-eq-right p ∙ sym (min-eq-right q))
 
-lines-by : (t : Bool) (n : ℕ) (l : plain.Line) (r : List plain.Line)
-    → min ((if t then min (n + 1) mostCount else n) + length r) mostCount ≡ min (n + length ((if t then l ∷ [] else []) ++ r)) mostCount
-lines-by true n l r =
-    let e : n + 1 + length r ≡ n + length (l ∷ r) = omega arith in
+lines-by : (m : plain.Move) (n : ℕ) (d : plain.Decoder) (r : List plain.Line)
+    → min ((if isEnd m then min (n + 1) mostCount else n) + length r) mostCount ≡ min (n + length (plain.lineAt d m ++ r)) mostCount
+lines-by plain.ends n d r =
+    let e : n + 1 + length r ≡ n + length (d .line ∷ r) = omega arith in
     min-add (n + 1) (length r) mostCount ∙ ap (λ (k : ℕ). min k mostCount) e
-lines-by false n l r = refl
+lines-by (plain.grows c) n d r = refl
+lines-by plain.stays n d r = refl
 
 pub going-on : (t : Text) (bs : List ℕ) (i : ℕ) (r s : Text) → Going t bs i r → i < length bs → Taken r (getD bs i 0) s → Going t bs (i + 1) s
-unfolding plain.addBytes plain.linesIn
+unfolding plain.tookAll plain.linesIn typed
 going-on t bs i r s g h b =
     let c = getD bs i 0 in
-    let rest = drop (i + 1) bs in
-    let next = plain.addByte (decoderOf (r .decoder)) c in
+    let rest = typed (drop (i + 1) bs) in
+    let next = plain.took (decoderOf (r .decoder)) (Byte c) in
     let e : drop i bs ≡ c ∷ drop (i + 1) bs = rw (add-one i) (drop-cons bs i 0 h) in
     record {
-      decoder = rw (b .decoder) (holding-bytes rest next ∙ (rw e at (g .decoder)));
+      decoder = rw (b .decoder) (holding-heard rest next ∙ (rw e at (g .decoder)));
       lines =
           rw (b .decoder, holding-lines rest next, b .lines)
-          (lines-by (eqb c 10) (r .lines) (decoderOf (r .decoder) .line) (plain.linesIn next rest) ∙ (rw e at (g .lines)));
+          (lines-by (plain.moveOf (Byte c)) (r .lines) (decoderOf (r .decoder)) (plain.linesIn next rest) ∙ (rw e at (g .lines)));
       sound = b .sound;
     }
 
 pub going-end : (t : Text) (bs : List ℕ) (i : ℕ) (r : Text) → Going t bs i r → i ≤ length bs → length bs ≤ i → r .lines ≤ mostCount → Read t bs r
-unfolding plain.addBytes plain.linesIn
+unfolding plain.tookAll plain.linesIn typed
 going-end t bs i r g p q m =
     let e : i ≡ length bs = omega arith in
     let k : drop i bs ≡ [] = rw (e, drop-length bs) refl in

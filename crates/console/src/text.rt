@@ -1,6 +1,6 @@
 // Tide lines as text: each line of standard input is judged for a station, and its number and answer are printed; then the reading.
 use tide::Decoder;
-use tide::Reading;
+use tide::Shown;
 ghost use mathlib.Core.Path.{_≡_};
 ghost use Prim.Native.Nat.{_+_, min};
 ghost use lib.IntN.{natAbs};
@@ -53,17 +53,17 @@ fn print_level(level: i16) {
 }
 
 // `R`, then station, water minute and level where there is a reading.
-pub fn print_reading(station: u16, reading: Reading) {
+pub fn print_reading(station: u16, shown: Shown) {
     io::write_all(1, b"R");
-    match reading {
-        Reading::None => {}
-        Reading::Shows { water, level } => {
+    match shown {
+        Shown::None => {}
+        Shown::Shows(reading) => {
             io::write_all(1, b" ");
             io::print_decimal(1, station as u64);
             io::write_all(1, b" ");
-            io::print_decimal(1, water as u64);
+            io::print_decimal(1, reading.water as u64);
             io::write_all(1, b" ");
-            print_level(level);
+            print_level(reading.level);
         }
     }
     io::write_all(1, b"\n");

@@ -19,49 +19,55 @@ use Rattle.framing.specs.Frame.{withBit, idleBit, dataBit, stopBit, badStop, pu
 use Rattle.framing.proofs.FrameLaws.{push-idle, push-data, push-stop}
 use Rattle.framing.specs.Framing.{AreBytes, held}
 use Rattle.framing.proofs.FramingLaws.{heard-append, after-append, heard-few, heard-few-any}
-use Rattle.demodulation.specs.Demod.{Step, eventOf, fedCore, fed, finished, decoded, stepOf, freshDemodulator, before, hearing, reported, Tuned}
+use Rattle.demodulation.specs.Demod.{Demodulator, Step, eventOf, fed, finished, decoded, stepOf, freshDemodulator, fallOf, changeOf, wordOf, happensAt, happens, before, hearing, reported, Tuned}
 use Rattle.demodulation.specs.Correlation.{places, multiplied, advanced}
-use Rattle.demodulation.specs.Timing.{sliced}
+use Rattle.demodulation.specs.Timing.{sliced, ticked}
 use Rattle.demodulation.specs.Demod.{eventsOf}
 use Rattle.bell103.specs.declared.Role.{Role}
 use Rattle.framing.specs.declared.frame.Deframer.{Deframer}
-use Rattle.framing.specs.declared.frame.Heard.the-variants.{Waiting}
+use Rattle.framing.specs.declared.frame.Heard.{Heard}
+use Rattle.framing.specs.declared.frame.Heard.the-variants.{Byte, Waiting}
+use Rattle.happenings.specs.Happening.{bytesIn, changesIn}
+use Rattle.happenings.proofs.HappeningLaws as happening
+use Rattle.happenings.specs.declared.happening.Happening.{Happening}
+use Rattle.demodulation.specs.declared.kind.Kind.{Kind}
+use Rattle.demodulation.specs.declared.carrier.CarrierDetector.{CarrierDetector}
+use Rattle.demodulation.specs.declared.demod.Latch.{Latch}
 use Rattle.framing.specs.declared.frame.Pushed.{Pushed}
 use Rattle.demodulation.specs.declared.correlator.Correlator.{Correlator}
 use Rattle.demodulation.specs.declared.demod.Event.{Event}
 use Rattle.demodulation.specs.declared.demod.Event.the-variants.{Nothing, CarrierUp, CarrierDown}
-use Rattle.demodulation.specs.declared.demod.Demodulator.{Demodulator}
 use Rattle.demodulation.specs.Demod.{Sliced, lastOf, joined}
 
 -- ---- one step
 module _ (d : Demodulator) (s : Float) where
   -- "nothing more until 27 samples are in"
-  pub step-waits : fedCore (d .core) s .corr .filled ≡ false → stepOf d s ≡ record { state = fed d s; heard = Waiting; event = Nothing }
+  pub step-waits : fed d s .corr .filled ≡ false → stepOf d s ≡ record { state = fed d s; heard = Waiting; event = Nothing }
   unfolding stepOf
   step-waits h = ap (λ (f : Bool). if f then decoded (fed d s) else record { state = fed d s; heard = Waiting; event = Nothing }) h
 
-  pub step-decodes : fedCore (d .core) s .corr .filled ≡ true → stepOf d s ≡ decoded (fed d s)
+  pub step-decodes : fed d s .corr .filled ≡ true → stepOf d s ≡ decoded (fed d s)
   unfolding stepOf
   step-decodes h = ap (λ (f : Bool). if f then decoded (fed d s) else record { state = fed d s; heard = Waiting; event = Nothing }) h
 
   -- what holds of either holds of the step
   by-cases : (P : Step → Type 0) → P (record { state = fed d s; heard = Waiting; event = Nothing }) → P (decoded (fed d s)) → P (stepOf d s)
   unfolding stepOf
-  by-cases P w g = go (fed d s .core .corr .filled)
+  by-cases P w g = go (fed d s .corr .filled)
     where
       go : (f : Bool) → P (if f then decoded (fed d s) else record { state = fed d s; heard = Waiting; event = Nothing })
       go true = g
       go false = w
 
   -- the place and the phases move by one sample, whatever else happens
-  pub corr-after : stepOf d s .state .core .corr ≡ advanced (d .core .corr)
-  unfolding fedCore finished
-  corr-after = by-cases (λ x. x .state .core .corr ≡ advanced (d .core .corr)) refl refl
+  pub corr-after : stepOf d s .state .corr ≡ advanced (d .corr)
+  unfolding fed finished
+  corr-after = by-cases (λ x. x .state .corr ≡ advanced (d .corr)) refl refl
 
   -- each ring has the sample's product at that place
-  pub rings-after : stepOf d s .state .rings ≡ multiplied (d .rings) (d .core .corr) s
-  unfolding fedCore finished
-  rings-after = by-cases (λ x. x .state .rings ≡ multiplied (d .rings) (d .core .corr) s) refl refl
+  pub rings-after : stepOf d s .state .rings ≡ multiplied (d .rings) (d .corr) s
+  unfolding fed finished
+  rings-after = by-cases (λ x. x .state .rings ≡ multiplied (d .rings) (d .corr) s) refl refl
 
 no-bits : (d : Deframer) (n : ℕ) → Sliced d d [] n
 unfolding heard after
@@ -78,43 +84,150 @@ slice-bits d true false soft = no-bits d 1
 slice-bits d false up soft = no-bits d 1
 
 -- "At most one boundary a sample", so at most one bit
-pub step-bits : (d : Demodulator) (s : Float) → Sliced (d .core .deframer) (stepOf d s .state .core .deframer) (bytesOf (stepOf d s .heard)) 1
-unfolding fedCore finished
+pub step-bits : (d : Demodulator) (s : Float) → Sliced (d .deframer) (stepOf d s .state .deframer) (bytesOf (stepOf d s .heard)) 1
+unfolding fed finished
 step-bits d s =
-    by-cases d s (λ x. Sliced (d .core .deframer) (x .state .core .deframer) (bytesOf (x .heard)) 1)
-    (no-bits (d .core .deframer) 1)
-    (slice-bits (d .core .deframer) _ _ _)
+    by-cases d s (λ x. Sliced (d .deframer) (x .state .deframer) (bytesOf (x .heard)) 1)
+    (no-bits (d .deframer) 1)
+    (slice-bits (d .deframer) _ _ _)
+
+-- ---- what happens at a step, by its parts
+module _ (was up : Bool) (event : Event) (word : Heard) where
+  fall-bytes : (was up : Bool) → bytesIn (fallOf was up) ≡ []
+  unfolding bytesIn
+  fall-bytes true true = refl
+  fall-bytes true false = refl
+  fall-bytes false true = refl
+  fall-bytes false false = refl
+
+  change-bytes : (event : Event) → bytesIn (changeOf event) ≡ []
+  unfolding bytesIn
+  change-bytes Nothing = refl
+  change-bytes CarrierUp = refl
+  change-bytes CarrierDown = refl
+
+  word-bytes : (word : Heard) → bytesIn (wordOf word) ≡ bytesOf word
+  unfolding bytesIn
+  word-bytes (Byte b) = refl
+  word-bytes Waiting = refl
+
+  pub bytes-at : bytesIn (happensAt was up event word) ≡ bytesOf word
+  bytes-at =
+      rw (happening.bytes-append (fallOf was up) (changeOf event ++ wordOf word), happening.bytes-append (changeOf event) (wordOf word), fall-bytes was up, change-bytes event)
+      (word-bytes word)
+
+  fall-changes : (was up : Bool) → changesIn (fallOf was up) ≡ []
+  unfolding changesIn
+  fall-changes true true = refl
+  fall-changes true false = refl
+  fall-changes false true = refl
+  fall-changes false false = refl
+
+  change-changes : (event : Event) → changesIn (changeOf event) ≡ eventsOf event
+  unfolding changesIn
+  change-changes Nothing = refl
+  change-changes CarrierUp = refl
+  change-changes CarrierDown = refl
+
+  word-changes : (word : Heard) → changesIn (wordOf word) ≡ []
+  unfolding changesIn
+  word-changes (Byte b) = refl
+  word-changes Waiting = refl
+
+  pub changes-at : changesIn (happensAt was up event word) ≡ eventsOf event
+  changes-at =
+      rw (happening.changes-append (fallOf was up) (changeOf event ++ wordOf word), happening.changes-append (changeOf event) (wordOf word), fall-changes was up, word-changes word)
+      (append-nil (changesIn (changeOf event)) ∙ change-changes event)
+
+-- at most two: where the detector goes down, nothing is sliced
+one-change : (event : Event) → length (changeOf event) ≤ 1
+one-change Nothing = omega arith
+one-change CarrierUp = omega arith
+one-change CarrierDown = omega arith
+
+one-word : (word : Heard) → length (wordOf word) ≤ 1
+one-word (Byte b) = omega arith
+one-word Waiting = omega arith
+
+two-at : (d : Deframer) (was up boundary : Bool) (soft : Float) (event : Event) → length (happensAt was up event (sliced d boundary up soft .heard)) ≤ 2
+unfolding sliced
+two-at d true false true soft event = rw (length-append (changeOf event) []) (omega (arith, one-change event))
+two-at d true false false soft event = rw (length-append (changeOf event) []) (omega (arith, one-change event))
+two-at d true true boundary soft event =
+    rw (length-append (changeOf event) (wordOf (sliced d boundary true soft .heard))) (omega (arith, one-change event, one-word (sliced d boundary true soft .heard)))
+two-at d false true boundary soft event =
+    rw (length-append (changeOf event) (wordOf (sliced d boundary true soft .heard))) (omega (arith, one-change event, one-word (sliced d boundary true soft .heard)))
+two-at d false false boundary soft event =
+    rw (length-append (changeOf event) (wordOf (sliced d boundary false soft .heard))) (omega (arith, one-change event, one-word (sliced d boundary false soft .heard)))
+
+none-at : (up : Bool) → length (happensAt up up Nothing Waiting) ≤ 2
+none-at true = omega arith
+none-at false = omega arith
+
+two-of : (was : Bool) (c : Demodulator) (carrier : CarrierDetector) (latch : Latch) (soft : Float)
+    → length (happensAt was (finished c carrier latch soft .state .carrier .detected) (finished c carrier latch soft .event) (finished c carrier latch soft .heard)) ≤ 2
+unfolding finished
+two-of was c carrier latch soft =
+    two-at (c .deframer) was (carrier .detected) (ticked (c .timing) soft .boundary) soft (eventOf (c .latch .qualified) (latch .qualified))
+
+pub step-two : (d : Demodulator) (s : Float) → length (happens d (stepOf d s)) ≤ 2
+unfolding fed
+step-two d s =
+    by-cases d s (λ x. length (happens d x) ≤ 2) (none-at (d .carrier .detected)) (two-of (d .carrier .detected) (fed d s) _ _ _)
 
 -- of so many samples at most so many bits
-pub hearing-bits : (d : Demodulator) (ss : List Float) → Sliced (d .core .deframer) (hearing d ss .after .core .deframer) (hearing d ss .bytes) (length ss)
+pub hearing-bits : (d : Demodulator) (ss : List Float) → Sliced (d .deframer) (hearing d ss .after .deframer) (bytesIn (hearing d ss .happenings)) (length ss)
 unfolding hearing
-hearing-bits d [] = no-bits (d .core .deframer) 0
+hearing-bits d [] = unfold bytesIn in no-bits (d .deframer) 0
 hearing-bits d (s ∷ ss) =
     let x = step-bits d s in
     let y = hearing-bits (stepOf d s .state) ss in
+    rw (happening.bytes-append (happens d (stepOf d s)) (hearing (stepOf d s .state) ss .happenings), bytes-at _ _ (stepOf d s .event) (stepOf d s .heard))
     record {
       bits = x .bits ++ y .bits;
       few = rw (length-append (x .bits) (y .bits)) (omega arith);
-      left = after-append (d .core .deframer) (x .bits) (y .bits) ∙ rw (x .left) (y .left);
-      yields = heard-append (d .core .deframer) (x .bits) (y .bits) ∙ rw (x .left, x .yields, y .yields);
+      left = after-append (d .deframer) (x .bits) (y .bits) ∙ rw (x .left) (y .left);
+      yields = heard-append (d .deframer) (x .bits) (y .bits) ∙ rw (x .left, x .yields, y .yields);
     }
 
 -- ten bits make a byte: ten for each byte heard are at most the bits held before and the samples
 pub hearing-few : (d : Demodulator) (ss : List Float)
-    → 10 * length (hearing d ss .bytes) + held (hearing d ss .after .core .deframer) ≤ held (d .core .deframer) + length ss
+    → 10 * length (bytesIn (hearing d ss .happenings)) + held (hearing d ss .after .deframer) ≤ held (d .deframer) + length ss
 hearing-few d ss =
     let x = hearing-bits d ss in
-    let h = heard-few (d .core .deframer) (x .bits) in
+    let h = heard-few (d .deframer) (x .bits) in
     let f = x .few in
     rw (← x .left, ← x .yields) (omega arith)
 
 -- at most one byte a sample
-pub hearing-few-any : (d : Demodulator) (ss : List Float) → length (hearing d ss .bytes) ≤ length ss
+pub hearing-few-any : (d : Demodulator) (ss : List Float) → length (bytesIn (hearing d ss .happenings)) ≤ length ss
 hearing-few-any d ss =
     let x = hearing-bits d ss in
-    let h = heard-few-any (d .core .deframer) (x .bits) in
+    let h = heard-few-any (d .deframer) (x .bits) in
     let f = x .few in
     rw (← x .yields) (omega arith)
+
+-- at most two happenings a sample
+pub hearing-two : (d : Demodulator) (ss : List Float) → length (hearing d ss .happenings) ≤ 2 * length ss
+unfolding hearing
+hearing-two d [] = omega arith
+hearing-two d (s ∷ ss) =
+    rw (length-append (happens d (stepOf d s)) (hearing (stepOf d s .state) ss .happenings)) (omega (arith, step-two d s, hearing-two (stepOf d s .state) ss))
+
+-- ---- the switch
+kind-of : (d : Demodulator) (carrier : CarrierDetector) (latch : Latch) (soft : Float) → finished d carrier latch soft .state .kind ≡ d .kind
+unfolding finished
+kind-of d carrier latch soft = refl
+
+-- every step keeps it
+pub step-kind : (d : Demodulator) (s : Float) → stepOf d s .state .kind ≡ d .kind
+unfolding fed
+step-kind d s = by-cases d s (λ x. x .state .kind ≡ d .kind) refl (kind-of (fed d s) _ _ _)
+
+pub hearing-kind : (d : Demodulator) (ss : List Float) → hearing d ss .after .kind ≡ d .kind
+unfolding hearing
+hearing-kind d [] = refl
+hearing-kind d (s ∷ ss) = hearing-kind (stepOf d s .state) ss ∙ step-kind d s
 
 -- ---- what a bit leaves true
 -- a deframer's error count grows by one at most, and its byte so far stays a byte, as each byte that it gives is
@@ -188,15 +301,15 @@ next-place c = go (ltb (c .pos + 1) places) refl
     go true e = ltb-true (c .pos + 1) places e
     go false e = omega arith
 
-pub fresh-tuned : (role : Role) → Tuned (freshDemodulator role)
+pub fresh-tuned : (kind : Kind) (role : Role) → Tuned (freshDemodulator kind role)
 unfolding freshDemodulator
-fresh-tuned role = record { place = omega arith; byte = omega arith }
+fresh-tuned kind role = record { place = omega arith; byte = omega arith }
 
 pub step-tuned : (d : Demodulator) (s : Float) → Tuned d → Tuned (stepOf d s .state)
 step-tuned d s h =
     record {
-      place = rw (corr-after d s) (next-place (d .core .corr));
-      byte = rw (← step-bits d s .left) (after-acc (d .core .deframer) (step-bits d s .bits) (h .byte));
+      place = rw (corr-after d s) (next-place (d .corr));
+      byte = rw (← step-bits d s .left) (after-acc (d .deframer) (step-bits d s .bits) (h .byte));
     }
 
 pub hearing-tuned : (d : Demodulator) (ss : List Float) → Tuned d → Tuned (hearing d ss .after)
@@ -205,14 +318,14 @@ hearing-tuned d [] h = h
 hearing-tuned d (s ∷ ss) h = hearing-tuned (stepOf d s .state) ss (step-tuned d s h)
 
 -- each byte heard is a byte
-pub hearing-bytes : (d : Demodulator) (ss : List Float) → Tuned d → AreBytes (hearing d ss .bytes)
-hearing-bytes d ss h = rw (← hearing-bits d ss .yields) (heard-bytes (d .core .deframer) (hearing-bits d ss .bits) (h .byte))
+pub hearing-bytes : (d : Demodulator) (ss : List Float) → Tuned d → AreBytes (bytesIn (hearing d ss .happenings))
+hearing-bytes d ss h = rw (← hearing-bits d ss .yields) (heard-bytes (d .deframer) (hearing-bits d ss .bits) (h .byte))
 
 -- at most one error a sample
-pub hearing-errors : (d : Demodulator) (ss : List Float) → Tuned d → hearing d ss .after .core .deframer .errors ≤ d .core .deframer .errors + length ss
+pub hearing-errors : (d : Demodulator) (ss : List Float) → Tuned d → hearing d ss .after .deframer .errors ≤ d .deframer .errors + length ss
 hearing-errors d ss h =
     let x = hearing-bits d ss in
-    let e = after-errors (d .core .deframer) (x .bits) (h .byte) in
+    let e = after-errors (d .deframer) (x .bits) (h .byte) in
     let f = x .few in
     rw (← x .left) (omega arith)
 
@@ -232,62 +345,65 @@ few-events CarrierUp = omega arith
 few-events CarrierDown = omega arith
 
 step-reports : (d : Demodulator) (s : Float) → reported (stepOf d s .state) ≡ lastOf (reported d) (eventsOf (stepOf d s .event))
-unfolding fedCore finished
+unfolding fed finished
 step-reports d s =
     by-cases d s (λ x. reported (x .state) ≡ lastOf (reported d) (eventsOf (x .event))) refl (reports (reported d) _)
 
--- the report stands as the last event says, or as before
-pub hearing-reports : (d : Demodulator) (ss : List Float) → reported (hearing d ss .after) ≡ lastOf (reported d) (hearing d ss .events)
+-- the report stands as the last change says, or as before
+pub hearing-reports : (d : Demodulator) (ss : List Float) → reported (hearing d ss .after) ≡ lastOf (reported d) (changesIn (hearing d ss .happenings))
 unfolding hearing
-hearing-reports d [] = refl
+hearing-reports d [] = unfold changesIn in refl
 hearing-reports d (s ∷ ss) =
-    hearing-reports (stepOf d s .state) ss
-    ∙ ap (λ (b : Bool). lastOf b (hearing (stepOf d s .state) ss .events)) (step-reports d s)
-    ∙ sym (last-append (reported d) (eventsOf (stepOf d s .event)) (hearing (stepOf d s .state) ss .events))
+    let x = happens d (stepOf d s) in
+    let y = hearing (stepOf d s .state) ss .happenings in
+    rw (happening.changes-append x y, changes-at _ _ (stepOf d s .event) (stepOf d s .heard))
+    (hearing-reports (stepOf d s .state) ss
+    ∙ ap (λ (b : Bool). lastOf b (changesIn y)) (step-reports d s)
+    ∙ sym (last-append (reported d) (eventsOf (stepOf d s .event)) (changesIn y)))
 
--- at most one event a sample
-pub hearing-events : (d : Demodulator) (ss : List Float) → length (hearing d ss .events) ≤ length ss
+-- at most one change a sample
+pub hearing-changes : (d : Demodulator) (ss : List Float) → length (changesIn (hearing d ss .happenings)) ≤ length ss
 unfolding hearing
-hearing-events d [] = omega arith
-hearing-events d (s ∷ ss) =
-    rw (length-append (eventsOf (stepOf d s .event)) (hearing (stepOf d s .state) ss .events))
-    (omega (arith, few-events (stepOf d s .event), hearing-events (stepOf d s .state) ss))
+hearing-changes d [] = unfold changesIn in omega arith
+hearing-changes d (s ∷ ss) =
+    let x = happens d (stepOf d s) in
+    let y = hearing (stepOf d s .state) ss .happenings in
+    rw (happening.changes-append x y, changes-at _ _ (stepOf d s .event) (stepOf d s .heard), length-append (eventsOf (stepOf d s .event)) (changesIn y))
+    (omega (arith, few-events (stepOf d s .event), hearing-changes (stepOf d s .state) ss))
 
 -- ---- one list after another
-pub hearing-none : (d : Demodulator) → hearing d [] ≡ record { after = d; bytes = []; events = [] }
+pub hearing-none : (d : Demodulator) → hearing d [] ≡ record { after = d; happenings = [] }
 unfolding hearing
 hearing-none d = refl
 
-pub hearing-first : (d : Demodulator) (s : Float) (ss : List Float) → hearing d (s ∷ ss) ≡ before (stepOf d s) (hearing (stepOf d s .state) ss)
+pub hearing-first : (d : Demodulator) (s : Float) (ss : List Float) → hearing d (s ∷ ss) ≡ before d (stepOf d s) (hearing (stepOf d s .state) ss)
 unfolding hearing
 hearing-first d s ss = refl
 
 pub hearing-append : (d : Demodulator) (xs ys : List Float) → hearing d (xs ++ ys) ≡ joined (hearing d xs) (hearing (hearing d xs .after) ys)
 unfolding hearing
 hearing-append d [] ys = refl
-hearing-append d (x ∷ xs) ys = ap (before (stepOf d x)) (hearing-append (stepOf d x .state) xs ys) ∙ simp append-assoc
+hearing-append d (x ∷ xs) ys = ap (before d (stepOf d x)) (hearing-append (stepOf d x .state) xs ys) ∙ again
+  where
+    again : before d (stepOf d x) (joined (hearing (stepOf d x .state) xs) (hearing (hearing (stepOf d x .state) xs .after) ys))
+        ≡ joined (before d (stepOf d x) (hearing (stepOf d x .state) xs)) (hearing (hearing (stepOf d x .state) xs .after) ys)
+    again = ap (λ (l : List Happening). record { after = hearing (hearing (stepOf d x .state) xs .after) ys .after; happenings = l }) (sym (append-assoc (happens d (stepOf d x)) _ _))
 
 -- ---- for a loop over the samples: what is heard from place i on, after the sample at i and before it
 module _ (d : Demodulator) (ss : List Float) (i : ℕ) (z : Float) (h : i < length ss) where
-  pub hearing-turn : hearing d (drop i ss) ≡ before (stepOf d (getD ss i z)) (hearing (stepOf d (getD ss i z) .state) (drop (i + 1) ss))
+  pub hearing-turn : hearing d (drop i ss) ≡ before d (stepOf d (getD ss i z)) (hearing (stepOf d (getD ss i z) .state) (drop (i + 1) ss))
   unfolding hearing
   hearing-turn = rw (add-one, drop-cons ss i z h)
 
   pub after-turn : hearing (stepOf d (getD ss i z) .state) (drop (i + 1) ss) .after ≡ hearing d (drop i ss) .after
   after-turn = rw hearing-turn
 
-  -- behind the bytes heard so far
-  pub bytes-turn : (so-far : List ℕ)
-      → (so-far ++ bytesOf (stepOf d (getD ss i z) .heard)) ++ hearing (stepOf d (getD ss i z) .state) (drop (i + 1) ss) .bytes
-      ≡ so-far ++ hearing d (drop i ss) .bytes
-  bytes-turn so-far = rw (hearing-turn, append-assoc)
-
-  -- behind the events so far
-  pub events-turn : (so-far : List Bool)
-      → (so-far ++ eventsOf (stepOf d (getD ss i z) .event)) ++ hearing (stepOf d (getD ss i z) .state) (drop (i + 1) ss) .events
-      ≡ so-far ++ hearing d (drop i ss) .events
-  events-turn so-far = rw (hearing-turn, append-assoc)
+  -- behind what happened so far
+  pub happenings-turn : (so-far : List Happening)
+      → (so-far ++ happens d (stepOf d (getD ss i z))) ++ hearing (stepOf d (getD ss i z) .state) (drop (i + 1) ss) .happenings
+      ≡ so-far ++ hearing d (drop i ss) .happenings
+  happenings-turn so-far = rw (hearing-turn, append-assoc)
 
 -- the end of it
-pub hearing-end : (d : Demodulator) (ss : List Float) (i : ℕ) → length ss ≤ i → hearing d (drop i ss) ≡ record { after = d; bytes = []; events = [] }
+pub hearing-end : (d : Demodulator) (ss : List Float) (i : ℕ) → length ss ≤ i → hearing d (drop i ss) ≡ record { after = d; happenings = [] }
 hearing-end d ss i h = rw (drop-of-length-le ss h) (hearing-none d)

@@ -3,3 +3,4 @@ pub mod SummingLaws
 pub mod SummingSteps
 pub mod CarrierLaws
 pub mod DemodLaws
+mod Turns

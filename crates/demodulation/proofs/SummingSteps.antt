@@ -4,20 +4,19 @@ use lib.Ieee.{Float}
 use Rattle.demodulation.specs.Correlation.{advanced}
 use Rattle.demodulation.specs.Summing.{Summed, nextPlace}
 use Rattle.demodulation.proofs.SummingLaws.{summed-to, summed-kept}
-use Rattle.demodulation.specs.Demod.{Step, stepOf}
+use Rattle.demodulation.specs.Demod.{Demodulator, Step, stepOf}
 use Rattle.demodulation.proofs.DemodLaws.{corr-after, rings-after}
 use Rattle.demodulation.specs.declared.correlator.Correlator.{Correlator}
 use Rattle.demodulation.specs.declared.correlator.Rings.{Rings}
 use Rattle.demodulation.specs.declared.correlator.Sums.{Sums}
-use Rattle.demodulation.specs.declared.demod.Demodulator.{Demodulator}
 
 module _ (d : Demodulator) (s : Float) (x : Step) (e : x ≡ stepOf d s) where
-  pub summed-step : (p : Sums) → Summed (d .core .corr .pos) (d .rings) p → Summed (d .core .corr .pos) (x .state .rings) p
-  summed-step p h = summed-kept (d .core .corr) s (d .rings) (x .state .rings) p h (ap (λ (y : Step). y .state .rings) e ∙ rings-after d s)
+  pub summed-step : (p : Sums) → Summed (d .corr .pos) (d .rings) p → Summed (d .corr .pos) (x .state .rings) p
+  summed-step p h = summed-kept (d .corr) s (d .rings) (x .state .rings) p h (ap (λ (y : Step). y .state .rings) e ∙ rings-after d s)
 
-  next-place : x .state .core .corr .pos ≡ nextPlace (d .core .corr .pos)
+  next-place : x .state .corr .pos ≡ nextPlace (d .corr .pos)
   unfolding advanced
-  next-place = ap (λ (y : Step). y .state .core .corr .pos) e ∙ ap (λ (c : Correlator). c .pos) (corr-after d s)
+  next-place = ap (λ (y : Step). y .state .corr .pos) e ∙ ap (λ (c : Correlator). c .pos) (corr-after d s)
 
-  pub summed-next : (r : Rings) (p : Sums) → Summed (nextPlace (d .core .corr .pos)) r p → Summed (x .state .core .corr .pos) r p
+  pub summed-next : (r : Rings) (p : Sums) → Summed (nextPlace (d .corr .pos)) r p → Summed (x .state .corr .pos) r p
   summed-next r p h = summed-to r p h (sym next-place)

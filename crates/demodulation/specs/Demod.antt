@@ -14,7 +14,14 @@ use Rattle.demodulation.specs.Carrier.{freshDetector, updated, freshDomi
 use Rattle.bell103.specs.declared.Role.{Role}
 use Rattle.bell103.specs.declared.TonePair.{TonePair}
 use Rattle.framing.specs.declared.frame.Heard.{Heard}
-use Rattle.framing.specs.declared.frame.Heard.the-variants.{Waiting}
+use Rattle.framing.specs.declared.frame.Heard.the-variants.{Byte, Waiting}
+use Rattle.framing.specs.declared.frame.Deframer.{Deframer}
+use Rattle.happenings.specs.declared.happening.Happening.{Happening}
+use Rattle.happenings.specs.declared.happening.Happening.the-variants as happening
+use Rattle.demodulation.specs.declared.kind.Kind.{Kind}
+use Rattle.demodulation.specs.declared.carrier.ToneDominance.{ToneDominance}
+use Rattle.demodulation.specs.declared.correlator.Correlator.{Correlator}
+use Rattle.demodulation.specs.declared.timing.Timing.{Timing}
 use Rattle.demodulation.specs.declared.carrier.CarrierDetector.{CarrierDetector}
 use Rattle.demodulation.specs.declared.carrier.Verdict.{Verdict}
 use Rattle.demodulation.specs.declared.carrier.Verdict.the-variants.{Going, Dominant, Not}
@@ -22,13 +29,9 @@ use Rattle.demodulation.specs.declared.correlator.Rings.{Rings}
 use Rattle.demodulation.specs.declared.demod.Latch.{Latch}
 use Rattle.demodulation.specs.declared.demod.Event.{Event}
 use Rattle.demodulation.specs.declared.demod.Event.the-variants.{Nothing, CarrierUp, CarrierDown}
-use Rattle.demodulation.specs.declared.demod.Core.{Core}
-use Rattle.demodulation.specs.declared.demod.CoreStep.{CoreStep}
-use Rattle.demodulation.specs.declared.demod.Demodulator.{Demodulator}
 use mathlib.Core.Path.{_≡_}
 use lib.ListN.{length}
 use Rattle.numeric.specs.Fold.{fold}
-use Rattle.framing.specs.declared.frame.Deframer.{Deframer}
 
 -- ---- the latch, and its event
 -- a finished block's verdict opens or shuts the gate
@@ -49,8 +52,18 @@ eventOf true true = Nothing
 eventOf false false = Nothing
 
 -- ---- one sample
-abbrev pub demodulator : Rings → Core → Demodulator
-demodulator rings core = record { rings = rings; core = core }
+-- the receiver at 8,000 Hz: whom it listens for; "the correlator's rings" and phases; dominance and its gate; detector, latched report, timing,
+-- deframer
+pub record Demodulator : Type 0 where
+  pub kind : Kind
+  pub rings : Rings
+  pub corr : Correlator
+  pub dominance : ToneDominance
+  pub «gate_open» : Bool
+  pub carrier : CarrierDetector
+  pub latch : Latch
+  pub timing : Timing
+  pub deframer : Deframer
 
 -- the state after a sample, and what came of it
 pub record Step : Type 0 where
@@ -58,64 +71,62 @@ pub record Step : Type 0 where
   pub heard : Heard
   pub event : Event
 
--- a step's answer, put together with the rings
-abbrev pub stepWith : Rings → CoreStep → Step
-stepWith rings x = record { state = demodulator rings (x .core); heard = x .heard; event = x .event }
-
--- "phases, ring place; dominance": a block that this sample ends has its say in this step
-unfoldable pub fedCore : Core → Float → Core
-fedCore c s =
-    let judged = dominanceStep (c .dominance) s in
+-- "products, phases, ring place; dominance": a block that this sample ends has its say in this step
+unfoldable pub fed : Demodulator → Float → Demodulator
+fed d s =
+    let judged = dominanceStep (d .dominance) s in
     record {
-      corr = advanced (c .corr);
+      kind = d .kind;
+      rings = multiplied (d .rings) (d .corr) s;
+      corr = advanced (d .corr);
       dominance = judged .state;
-      «gate_open» = gateAfter (c .«gate_open») (judged .verdict);
-      carrier = c .carrier;
-      latch = c .latch;
-      timing = c .timing;
-      deframer = c .deframer;
+      «gate_open» = gateAfter (d .«gate_open») (judged .verdict);
+      carrier = d .carrier;
+      latch = d .latch;
+      timing = d .timing;
+      deframer = d .deframer;
     }
 
--- "products, phases, ring place; dominance"
-abbrev pub fed : Demodulator → Float → Demodulator
-fed d s = demodulator (multiplied (d .rings) (d .core .corr) s) (fedCore (d .core) s)
-
 -- "event; timing; slice", with the detector and the latch as this sample leaves them
-unfoldable pub finished : Core → CarrierDetector → Latch → Float → CoreStep
-finished c carrier latch soft =
-    let t = ticked (c .timing) soft in
-    let bit = sliced (c .deframer) (t .boundary) (carrier .detected) soft in
+unfoldable pub finished : Demodulator → CarrierDetector → Latch → Float → Step
+finished d carrier latch soft =
+    let t = ticked (d .timing) soft in
+    let bit = sliced (d .deframer) (t .boundary) (carrier .detected) soft in
     record {
-      core =
+      state =
           record {
-            corr = c .corr;
-            dominance = c .dominance;
-            «gate_open» = c .«gate_open»;
+            kind = d .kind;
+            rings = d .rings;
+            corr = d .corr;
+            dominance = d .dominance;
+            «gate_open» = d .«gate_open»;
             carrier = carrier;
             latch = latch;
             timing = t .state;
             deframer = bit .state;
           };
       heard = bit .heard;
-      event = eventOf (c .latch .qualified) (latch .qualified);
+      event = eventOf (d .latch .qualified) (latch .qualified);
     }
 
 -- "correlate, in place order; detector; latch; event; timing; slice"
 abbrev pub decoded : Demodulator → Step
 decoded d =
     let o = correlated (d .rings) in
-    let carrier = updated (d .core .carrier) (o .energy) in
-    let latch = latched (d .core .latch) (d .core .«gate_open») (carrier .detected) in
-    stepWith (d .rings) (finished (d .core) carrier latch (o .soft))
+    let carrier = updated (d .carrier) (o .energy) in
+    let latch = latched (d .latch) (d .«gate_open») (carrier .detected) in
+    finished d carrier latch (o .soft)
 
 -- "nothing more until 27 samples are in"
 unfoldable pub stepOf : Demodulator → Float → Step
-stepOf d s = if fed d s .core .corr .filled then decoded (fed d s) else record { state = fed d s; heard = Waiting; event = Nothing }
+stepOf d s = if fed d s .corr .filled then decoded (fed d s) else record { state = fed d s; heard = Waiting; event = Nothing }
 
 -- ---- a fresh one
-abbrev pub freshCore : TonePair → TonePair → Core
-freshCore far own =
+abbrev pub freshOn : Kind → TonePair → TonePair → Demodulator
+freshOn kind far own =
     record {
+      kind = kind;
+      rings = ringsOf freshRing freshRing freshRing freshRing;
       corr = freshCorrelator (far .mark) (far .space);
       dominance = freshDominance (far .mark) (own .mark) (own .space) (whole dspRate);
       «gate_open» = false;
@@ -126,15 +137,41 @@ freshCore far own =
     }
 
 -- "It listens on the other role's tones"
-unfoldable pub freshDemodulator : Role → Demodulator
-freshDemodulator role = demodulator (ringsOf freshRing freshRing freshRing freshRing) (freshCore (tonesOf (otherRole role)) (tonesOf role))
+unfoldable pub freshDemodulator : Kind → Role → Demodulator
+freshDemodulator kind role = freshOn kind (tonesOf (otherRole role)) (tonesOf role)
+
+-- ---- what happens at a step, in order
+-- the detector goes down: from `was` to `up`
+abbrev pub fallOf : Bool → Bool → List Happening
+fallOf true false = happening.Lost ∷ []
+fallOf true true = []
+fallOf false up = []
+
+-- a change of the report
+abbrev pub changeOf : Event → List Happening
+changeOf Nothing = []
+changeOf CarrierUp = happening.Up ∷ []
+changeOf CarrierDown = happening.Down ∷ []
+
+-- a byte that a bit completed
+abbrev pub wordOf : Heard → List Happening
+wordOf (Byte b) = happening.Byte b ∷ []
+wordOf Waiting = []
+
+-- "detector; latch; event; timing; slice": in this order
+abbrev pub happensAt : Bool → Bool → Event → Heard → List Happening
+happensAt was up event heard = fallOf was up ++ (changeOf event ++ wordOf heard)
+
+-- of a step from the state d
+abbrev pub happens : Demodulator → Step → List Happening
+happens d x = happensAt (d .carrier .detected) (x .state .carrier .detected) (x .event) (x .heard)
 
 -- ---- a list of samples
--- the state after a list of samples, the bytes heard and the events, in order
+-- the state after a list of samples, and what they are heard as: all that happened, in order. The bytes, the losses and the changes of the
+-- report are parts of that one list (crate happenings: bytesIn, changesIn)
 pub record Hearing : Type 0 where
   pub after : Demodulator
-  pub bytes : List ℕ
-  pub events : List Bool
+  pub happenings : List Happening
 
 -- an event as a list: one, true for up, or none
 abbrev pub eventsOf : Event → List Bool
@@ -142,23 +179,23 @@ eventsOf Nothing = []
 eventsOf CarrierUp = true ∷ []
 eventsOf CarrierDown = false ∷ []
 
--- what a step gives, before what is heard from its state on
-abbrev pub before : Step → Hearing → Hearing
-before x rest = record { after = rest .after; bytes = bytesOf (x .heard) ++ rest .bytes; events = eventsOf (x .event) ++ rest .events }
+-- what a step from d gives, before what is heard from its state on
+abbrev pub before : Demodulator → Step → Hearing → Hearing
+before d x rest = record { after = rest .after; happenings = happens d x ++ rest .happenings }
 
 -- first sample first
 unfoldable pub hearing : Demodulator → List Float → Hearing
-hearing d [] = record { after = d; bytes = []; events = [] }
-hearing d (s ∷ ss) = before (stepOf d s) (hearing (stepOf d s .state) ss)
+hearing d [] = record { after = d; happenings = [] }
+hearing d (s ∷ ss) = before d (stepOf d s) (hearing (stepOf d s .state) ss)
 
 -- carrier_detected: the latched report
 abbrev pub reported : Demodulator → Bool
-reported d = d .core .latch .qualified
+reported d = d .latch .qualified
 
 -- what holds of each state that a fresh one and its steps gave: the ring place is one of the ring's, and the byte so far is a byte
 pub record Tuned (d : Demodulator) : Type 0 where
-  pub place : d .core .corr .pos < places
-  pub byte : d .core .deframer .acc < 256
+  pub place : d .corr .pos < places
+  pub byte : d .deframer .acc < 256
 
 -- ---- the deframer, bit by bit
 -- n samples: the deframer before them, after them, and the bytes of at most n bits that the samples were sliced to
@@ -175,4 +212,4 @@ lastOf was events = fold (λ (b c : Bool). c) was events
 
 -- two hearings, the second from where the first ended
 abbrev pub joined : Hearing → Hearing → Hearing
-joined x y = record { after = y .after; bytes = x .bytes ++ y .bytes; events = x .events ++ y .events }
+joined x y = record { after = y .after; happenings = x .happenings ++ y .happenings }

@@ -5,4 +5,6 @@ pub mod Correlation
 pub mod Summing
 pub mod Timing
 pub mod Demod
+pub mod DemodRep
+pub mod Listening
 pub mod Goertzel

@@ -91,7 +91,7 @@ pub fn sums_on(
 }
 
 // The sums over the places before pos, from nothing.
-pub fn sums_before(
+pub(crate) fn sums_before(
     mark_i: [f64; 27],
     mark_q: [f64; 27],
     space_i: [f64; 27],
@@ -105,7 +105,7 @@ pub fn sums_before(
 }
 
 // The sums for the next sample: over the places before the one after pos.
-pub fn next_sums(
+pub(crate) fn next_sums(
     mark_i: &[f64; 27],
     mark_q: &[f64; 27],
     space_i: &[f64; 27],

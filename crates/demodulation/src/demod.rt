@@ -7,7 +7,9 @@ use crate::correlator::Rings;
 use crate::correlator::Sums;
 use crate::correlator::decide;
 use crate::correlator::multiply;
+use crate::correlator::sums_before;
 use crate::correlator::sums_on;
+use crate::kind::Kind;
 use crate::timing::Timing;
 use crate::timing::slice;
 use crate::waves::waves;
@@ -21,7 +23,8 @@ ghost use mathlib.Core.Path.{_≡_};
 ghost use Prim.Native.Nat.{_<_};
 ghost use Rattle.demodulation.specs.Correlation.{ringsOf};
 ghost use Rattle.demodulation.specs.Summing.{Summed};
-ghost use Rattle.demodulation.specs.Demod.{gateAfter, latched, eventOf, demodulator, fedCore, finished, stepWith, stepOf, freshDemodulator, reported, Tuned};
+ghost use Rattle.demodulation.specs.Demod.{gateAfter, latched, eventOf, stepOf, freshDemodulator, reported};
+ghost use Rattle.demodulation.specs.DemodRep.{demodulator, demodulatorOf, stepWith, stepped, Feeds, Finishes, DemodSound};
 
 // What one step brought: a change of the carrier, or none.
 pub enum Event {
@@ -95,6 +98,7 @@ pub struct Core {
     pub gate_open: bool,
     pub latch: Latch,
     pub deframer: Deframer,
+    pub kind: Kind,
 }
 
 // The core after a sample, and what came of it.
@@ -105,8 +109,15 @@ pub struct CoreStep {
 }
 
 pub struct Demodulator {
-    pub rings: Rings,
-    pub core: Core,
+    pub(crate) rings: Rings,
+    pub(crate) core: Core,
+}
+
+// The state after a sample, and what came of it.
+pub struct Step {
+    pub state: Demodulator,
+    pub heard: Heard,
+    pub event: Event,
 }
 
 // Its parts are stored field by field: a part stored whole takes the gap behind its flag along, and the next sample's load of that gap would
@@ -115,7 +126,7 @@ impl Core {
     // Phases, ring place; dominance.
     fn feed(mut self, s: f64) -> Core
         requires { ⌜ self .corr .pos < 27 ⌝ }
-        ensures { λ r. ⌜ r ≡ fedCore self s ⌝ }
+        ensures { λ r. ⌜ Feeds self s r ⌝ }
     {
         let corr = self.corr;
         let dominance = self.dominance;
@@ -136,7 +147,7 @@ impl Core {
 
     // Event; timing; slice, with the detector and the latch as this sample leaves them.
     fn finish(mut self, carrier: CarrierDetector, latch: Latch, soft: f64) -> CoreStep
-        ensures { λ r. ⌜ r ≡ finished self carrier latch soft ⌝ }
+        ensures { λ r. ⌜ Finishes self carrier latch soft r ⌝ }
     {
         let timing = self.timing;
         let deframer = self.deframer;
@@ -162,7 +173,7 @@ impl Core {
     }
 
     // One sample, the rings lent, with their sums over the places before the sample's.
-    pub fn step(
+    pub(crate) fn step(
         self,
         mark_i: &mut [f64; 27],
         mark_q: &mut [f64; 27],
@@ -200,9 +211,9 @@ impl Core {
 
 impl Demodulator {
     // It listens on the other role's tones.
-    pub fn new(role: Role) -> Demodulator
-        ensures { λ r. ⌜ r ≡ freshDemodulator role ⌝ }
-        ensures { λ r. ⌜ Tuned r ⌝ }
+    pub fn new(kind: Kind, role: Role) -> Demodulator
+        ensures { λ r. ⌜ demodulatorOf r ≡ freshDemodulator kind role ⌝ }
+        ensures { λ r. ⌜ DemodSound r ⌝ }
     {
         let far = tones(role.listen());
         let own = tones(role);
@@ -230,19 +241,53 @@ impl Demodulator {
             latch,
             timing,
             deframer,
+            kind,
         };
         Demodulator { rings, core }
     }
 
+    // One sample.
+    pub fn step(self, s: f64) -> Step
+        requires { ⌜ DemodSound self ⌝ }
+        ensures { λ r. ⌜ stepped r ≡ stepOf (demodulatorOf self) s ⌝ }
+        ensures { λ r. ⌜ DemodSound (r .state) ⌝ }
+    {
+        let rings = self.rings;
+        let mut mark_i = rings.mark_i;
+        let mut mark_q = rings.mark_q;
+        let mut space_i = rings.space_i;
+        let mut space_q = rings.space_q;
+        let core = self.core;
+        let corr = core.corr;
+        let sums = sums_before(mark_i, mark_q, space_i, space_q, corr.pos);
+        let t = core.step(
+            &mut mark_i,
+            &mut mark_q,
+            &mut space_i,
+            &mut space_q,
+            sums,
+            s,
+        );
+        let heard = t.heard;
+        let event = t.event;
+        let next = t.core;
+        let state = Demodulator::of_parts(mark_i, mark_q, space_i, space_q, next);
+        Step {
+            state,
+            heard,
+            event,
+        }
+    }
+
     // From the rings and the core apart.
-    pub fn of_parts(
+    pub(crate) fn of_parts(
         mark_i: [f64; 27],
         mark_q: [f64; 27],
         space_i: [f64; 27],
         space_q: [f64; 27],
         core: Core,
     ) -> Demodulator
-        ensures { λ r. ⌜ r ≡ demodulator (ringsOf «mark_i» «mark_q» «space_i» «space_q») core ⌝ }
+        ensures { λ r. ⌜ demodulatorOf r ≡ demodulator (ringsOf «mark_i» «mark_q» «space_i» «space_q») core ⌝ }
     {
         let rings = Rings {
             mark_i,
@@ -253,7 +298,7 @@ impl Demodulator {
         Demodulator { rings, core }
     }
 
-    // The parts that `of_parts` takes.
+    // Its parts, to be looked at.
     pub fn rings(self) -> Rings
         ensures { λ r. ⌜ r ≡ self .rings ⌝ }
     {
@@ -269,7 +314,7 @@ impl Demodulator {
     }
 
     pub fn deframer(self) -> Deframer
-        ensures { λ r. ⌜ r ≡ self .core .deframer ⌝ }
+        ensures { λ r. ⌜ r ≡ demodulatorOf self .deframer ⌝ }
     {
         let deframer = self.core.deframer;
         deframer
@@ -277,7 +322,7 @@ impl Demodulator {
 
     // The latched report.
     pub fn carrier_detected(self) -> bool
-        ensures { λ r. ⌜ r ≡ reported self ⌝ }
+        ensures { λ r. ⌜ r ≡ reported (demodulatorOf self) ⌝ }
     {
         self.core.latch.qualified
     }

@@ -6,18 +6,24 @@
 //   waves        the two tones' cosines and sines             specs/Correlation.antt
 //   correlator   each sample against the two tones            specs/Correlation.antt, Summing.antt
 //   timing       where a symbol ends, and its bit             specs/Timing.antt
-//   demod        one sample                                   specs/Demod.antt
+//   kind         bare, or for a board
+//   demod        one sample                                   specs/Demod.antt, DemodRep.antt
+//   hearing      a list of samples, into lent codes           specs/Demod.antt, Listening.antt
 mod carrier;
 mod correlator;
 mod demod;
 mod goertzel;
+mod hearing;
+mod kind;
 pub mod selftest;
 mod timing;
 mod waves;
 
 pub use carrier::Verdict;
-pub use correlator::next_sums;
-pub use correlator::sums_before;
 pub use demod::Core;
 pub use demod::Demodulator;
 pub use demod::Event;
+pub use demod::Step;
+pub use hearing::HeardAll;
+pub use hearing::hear;
+pub use kind::Kind;

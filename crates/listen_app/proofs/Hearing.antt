@@ -18,44 +18,43 @@ use Rattle.wav.specs.declared.wav.Wav.{Wav}
 use Rattle.wav.specs.declared.wav.Step.{Step}
 use Rattle.wav.specs.declared.wav.Out.{Out}
 use Rattle.wav.specs.declared.wav.Out.the-variants as out
-use Rattle.listen_app.specs.BlockReader.{BlockReaderSound, withSample, readerOut, readerByte, isQuiet}
+use Rattle.listen_app.specs.BlockReader.{blockLength, Gathered, BlockReaderSound, withSample, readerOut, readerByte, isQuiet}
 use Rattle.listen_app.specs.Listener.{Listener, heardBlock, heardSample, heardOut, heardByte, heardBytes, view, actedBy, acted}
-use Rattle.listen_app.specs.declared.block_reader.BlockReader.{BlockReader}
 use Rattle.listen_app.specs.declared.block_reader.Progress.{Progress}
 use Rattle.listen_app.specs.declared.block_reader.Progress.the-variants as progress
 
 -- the samples so far, and one more
-more : (e : BlockReader) (x : Float) → BlockReaderSound e → take (e .n + 1) (set (e .block) (e .n) x) ≡ take (e .n) (e .block) ++ x ∷ []
+more : (e : Gathered) (x : Float) → BlockReaderSound (e .block) (e .n) → take (e .n + 1) (set (e .block) (e .n) x) ≡ take (e .n) (e .block) ++ x ∷ []
 more e x s = rw (add-one (e .n)) (take-suc-set (e .block) (e .n) x (omega (arith, s .few, s .room)))
 
-full : (e : BlockReader) (x : Float) → BlockReaderSound e → e .n ≡ 7 → set (e .block) (e .n) x ≡ take (e .n) (e .block) ++ x ∷ []
+full : (e : Gathered) (x : Float) → BlockReaderSound (e .block) (e .n) → e .n + 1 ≡ blockLength → set (e .block) (e .n) x ≡ take (e .n) (e .block) ++ x ∷ []
 full e x s h =
     let l : length (set (e .block) (e .n) x) ≤ e .n + 1 = omega (arith, length-set (e .block) (e .n) x, s .room) in
     sym (take-all (e .n + 1) (set (e .block) (e .n) x) l) ∙ more e x s
 
-held-length : (e : BlockReader) → BlockReaderSound e → length (take (e .n) (e .block)) ≡ e .n
+held-length : (e : Gathered) → BlockReaderSound (e .block) (e .n) → length (take (e .n) (e .block)) ≡ e .n
 held-length e s = length-take-le (e .n) (e .block) (omega (arith, s .few, s .room))
 
-sample-heard : (station : ℕ) (role : Role) (board : plain.Plain) (lines : ℕ) (e : BlockReader) (w : Wav) (x : Float) → BlockReaderSound e
+sample-heard : (station : ℕ) (role : Role) (board : plain.Plain) (lines : ℕ) (e : Gathered) (w : Wav) (x : Float) → BlockReaderSound (e .block) (e .n)
     → acted station role board lines (withSample e w x) ≡ heardSample (view e board lines) w x
 unfolding withSample heardSample actedBy
-sample-heard station role board lines e w x s = rw (held-length e s) (by (eqb (e .n) 7) refl)
+sample-heard station role board lines e w x s = rw (held-length e s) (by (eqb (e .n + 1) blockLength) refl)
   where
-    a : BlockReader
+    a : Gathered
     a = record { wav = w; block = set (e .block) (e .n) x; n = 0; progress = progress.Block }
 
-    b : BlockReader
+    b : Gathered
     b = record { wav = w; block = set (e .block) (e .n) x; n = e .n + 1; progress = progress.None }
 
-    by : (t : Bool) → eqb (e .n) 7 ≡ t
+    by : (t : Bool) → eqb (e .n + 1) blockLength ≡ t
         → acted station role board lines (if t then a else b)
         ≡ (if t
         then heardBlock w [] board lines (take (e .n) (e .block) ++ x ∷ [])
         else record { wav = w; held = take (e .n) (e .block) ++ x ∷ []; board = board; lines = lines })
-    by true q = ap (heardBlock w [] board lines) (full e x s (eqb-true (e .n) 7 q))
+    by true q = ap (heardBlock w [] board lines) (full e x s (eqb-true (e .n + 1) blockLength q))
     by false q = ap (λ (h : List Float). record { wav = w; held = h; board = board; lines = lines }) (more e x s)
 
-out-heard : (station : ℕ) (role : Role) (board : plain.Plain) (lines : ℕ) (e : BlockReader) (o : Out) (w : Wav) → BlockReaderSound e
+out-heard : (station : ℕ) (role : Role) (board : plain.Plain) (lines : ℕ) (e : Gathered) (o : Out) (w : Wav) → BlockReaderSound (e .block) (e .n)
     → acted station role board lines (readerOut o e w) ≡ heardOut station role o (view e board lines) w
 unfolding readerOut heardOut actedBy
 out-heard station role board lines e out.Going w s = refl
@@ -63,12 +62,12 @@ out-heard station role board lines e (out.Start rate) w s = refl
 out-heard station role board lines e (out.Sample x) w s = sample-heard station role board lines e w x s
 out-heard station role board lines e (out.Bad f) w s = refl
 
-byte-heard : (station : ℕ) (role : Role) (board : plain.Plain) (lines : ℕ) (e : BlockReader) (b : ℕ) → BlockReaderSound e
+byte-heard : (station : ℕ) (role : Role) (board : plain.Plain) (lines : ℕ) (e : Gathered) (b : ℕ) → BlockReaderSound (e .block) (e .n)
     → acted station role board lines (readerByte e b) ≡ heardByte station role (view e board lines) b
 unfolding readerByte heardByte
 byte-heard station role board lines e b s = out-heard station role board lines e (addByte (e .wav) b .out) (addByte (e .wav) b .state) s
 
-quiet-acted : (station : ℕ) (role : Role) (board : plain.Plain) (lines : ℕ) (e : BlockReader) (n : Progress) → isQuiet n ≡ true
+quiet-acted : (station : ℕ) (role : Role) (board : plain.Plain) (lines : ℕ) (e : Gathered) (n : Progress) → isQuiet n ≡ true
     → actedBy n station role board lines e ≡ view e board lines
 unfolding actedBy
 quiet-acted station role board lines e progress.None k = refl
@@ -77,20 +76,22 @@ quiet-acted station role board lines e progress.Block k = absurd (let z : _≡_ 
 quiet-acted station role board lines e (progress.Bad f) k = absurd (let z : _≡_ {A = ℕ} 0 1 = cc in omega arith)
 
 -- ---- bytes of an input
-module _ (station : ℕ) (role : Role) (board : plain.Plain) (lines : ℕ) (input : List ℕ) (i : ℕ) (e r : BlockReader) (s : BlockReaderSound e) (h : i < length input)
+module _ (station : ℕ) (role : Role) (board : plain.Plain) (lines : ℕ) (input : List ℕ) (i : ℕ) (e r : Gathered) (s : BlockReaderSound (e .block) (e .n)) (h : i < length input)
     (q : r ≡ readerByte e (getD input i 0)) where
-  -- the byte at i
-  pub first-heard : heardBytes station role (acted station role board lines r) (drop (i + 1) input) ≡ heardBytes station role (view e board lines) (drop i input)
-  unfolding heardBytes
-  first-heard =
-      let d : drop i input ≡ getD input i 0 ∷ drop (i + 1) input = rw (add-one i) (drop-cons input i 0 h) in
-      rw (d, q) (ap (λ (l : Listener). heardBytes station role l (drop (i + 1) input)) (byte-heard station role board lines e (getD input i 0) s))
-
-  -- where there were no progress to act on
+  -- the byte at i, where there was no progress to act on
   pub next-heard : isQuiet (e .progress) ≡ true
       → heardBytes station role (acted station role board lines r) (drop (i + 1) input) ≡ heardBytes station role (acted station role board lines e) (drop i input)
+  unfolding heardBytes
   next-heard k =
-      first-heard ∙ ap (λ (l : Listener). heardBytes station role l (drop i input)) (sym (quiet-acted station role board lines e (e .progress) k))
+      let d : drop i input ≡ getD input i 0 ∷ drop (i + 1) input = rw (add-one i) (drop-cons input i 0 h) in
+      let a = quiet-acted station role board lines e (e .progress) k in
+      rw (d, q, a) (ap (λ (l : Listener). heardBytes station role l (drop (i + 1) input)) (byte-heard station role board lines e (getD input i 0) s))
+
+-- progress comes behind the first byte
+pub read-on : (from i : ℕ) (t : Bool) → from ≤ i → (i ≡ from → t ≡ true) → t ≡ false → from < i
+read-on from i t h k e =
+    let n : i ≡ from → ⊥ = λ q. (let a = sym (k q) ∙ e in let z : _≡_ {A = ℕ} 0 1 = cc in omega (arith, z)) in
+    omega (arith, h, n)
 
 -- the last byte is in
 pub parts-end : (station : ℕ) (role : Role) (input : List ℕ) (i : ℕ) (l m : Listener) → i ≤ length input → length input ≤ i
@@ -101,13 +102,13 @@ parts-end station role input i l m p q h =
     rw (e, drop-length input) at h
 
 -- ---- what the progress do
-pub acted-at : {p q : Progress} (station : ℕ) (role : Role) (board : plain.Plain) (lines : ℕ) (e : BlockReader) {r : Listener} → p ≡ q
+pub acted-at : {p q : Progress} (station : ℕ) (role : Role) (board : plain.Plain) (lines : ℕ) (e : Gathered) {r : Listener} → p ≡ q
     → r ≡ actedBy q station role board lines e → r ≡ actedBy p station role board lines e
 acted-at station role board lines e h k = rw h k
 
-pub view-same : (e : BlockReader) {b c : plain.Plain} {j k : ℕ} → b ≡ c → j ≡ k → view e b j ≡ view e c k
+pub view-same : (e : Gathered) {b c : plain.Plain} {j k : ℕ} → b ≡ c → j ≡ k → view e b j ≡ view e c k
 view-same e h k = rw (h, k) refl
 
-pub out-at : (e : BlockReader) (b : ℕ) (s : Step) (o : Out) {r : BlockReader} → s ≡ addByte (e .wav) b → s .out ≡ o → r ≡ readerOut o e (s .state) → r ≡ readerByte e b
+pub byte-at : (e : Gathered) (b : ℕ) (s : Step) {r : Gathered} → s ≡ addByte (e .wav) b → r ≡ readerOut (s .out) e (s .state) → r ≡ readerByte e b
 unfolding readerByte
-out-at e b s o h k g = g ∙ (ap (λ (p : Out). readerOut p e (s .state)) (sym k) ∙ ap (λ (z : Step). readerOut (z .out) e (z .state)) h)
+byte-at e b s h g = g ∙ ap (λ (z : Step). readerOut (z .out) e (z .state)) h

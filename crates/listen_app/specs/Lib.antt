@@ -1,5 +1,6 @@
 -- The definitions that the contracts of `listen_app` cite.
 pub mod Words
 pub mod BlockReader
+pub mod BlockReaderRep
 pub mod Listener
 pub mod Session

@@ -1,4 +1,4 @@
--- What is heard of a recording: its samples go to a plain board in blocks of eight. Assumes nothing.
+-- What is heard of a recording: its samples go to a plain board in blocks. Assumes nothing.
 use Prim.Native.Nat.{ℕ, _+_, _≤_, _<_, min}
 use mathlib.Core.Path.{_≡_}
 use mathlib.Core.List.{List, [], _∷_, _++_}
@@ -14,9 +14,7 @@ use Rattle.wav.specs.Wav.{addByte}
 use Rattle.wav.specs.declared.wav.Wav.{Wav}
 use Rattle.wav.specs.declared.wav.Out.{Out}
 use Rattle.wav.specs.declared.wav.Out.the-variants as out
-use Rattle.listen_app.specs.BlockReader.{BlockReaderSound}
-use Rattle.listen_app.specs.declared.block_reader.BlockReader.{BlockReader}
-use Rattle.listen_app.specs.declared.block_reader.Heard.{Heard}
+use Rattle.listen_app.specs.BlockReader.{blockLength, Gathered, BlockReaderSound}
 use Rattle.listen_app.specs.declared.block_reader.Progress.{Progress}
 use Rattle.listen_app.specs.declared.block_reader.Progress.the-variants as progress
 use Rattle.listen_app.specs.declared.session.NumberedBoard.{NumberedBoard}
@@ -33,10 +31,10 @@ abbrev pub heardBlock : Wav → List Float → plain.Plain → ℕ → List Floa
 heardBlock w held board lines block =
     record { wav = w; held = held; board = plain.after board block; lines = min (lines + length (plain.lines board block)) mostCount }
 
--- a sample: the eighth makes a block, and the board hears it
+-- a sample: the last of a block makes it whole, and the board hears it
 unfoldable pub heardSample : Listener → Wav → Float → Listener
 heardSample l w x =
-    if eqb (length (l .held)) 7
+    if eqb (length (l .held) + 1) blockLength
     then heardBlock w [] (l .board) (l .lines) (l .held ++ x ∷ [])
     else record { wav = w; held = l .held ++ x ∷ []; board = l .board; lines = l .lines }
 
@@ -56,28 +54,28 @@ heardBytes station role l [] = l
 heardBytes station role l (b ∷ bs) = heardBytes station role (heardByte station role l b) bs
 
 -- ---- how the code holds it
-abbrev pub view : BlockReader → plain.Plain → ℕ → Listener
+abbrev pub view : Gathered → plain.Plain → ℕ → Listener
 view e board lines = record { wav = e .wav; held = take (e .n) (e .block); board = board; lines = lines }
 
-abbrev pub listenerOf : NumberedBoard → BlockReader → Listener
+abbrev pub listenerOf : NumberedBoard → Gathered → Listener
 listenerOf s e = view e (plainOf (s .board)) (s .lines)
 
 -- once the reader's progress is acted on
-unfoldable pub actedBy : Progress → ℕ → Role → plain.Plain → ℕ → BlockReader → Listener
+unfoldable pub actedBy : Progress → ℕ → Role → plain.Plain → ℕ → Gathered → Listener
 actedBy progress.None station role board lines e = view e board lines
 actedBy (progress.Start rate) station role board lines e = view e (plain.newOf rate station role .state) 0
 actedBy progress.Block station role board lines e = heardBlock (e .wav) (take (e .n) (e .block)) board lines (e .block)
 actedBy (progress.Bad f) station role board lines e = view e board lines
 
-abbrev pub acted : ℕ → Role → plain.Plain → ℕ → BlockReader → Listener
+abbrev pub acted : ℕ → Role → plain.Plain → ℕ → Gathered → Listener
 acted station role board lines e = actedBy (e .progress) station role board lines e
 
 -- bytes from a place on, up to progress: whatever board acts on the progress and goes on from there has heard all of them
-pub record Hears (e : BlockReader) (input : List ℕ) (from : ℕ) (r : Heard) : Type 0 where
-  pub sound : BlockReaderSound (r .reader)
-  pub on : from < r .at
-  pub within : r .at ≤ length input
+pub record Hears (e : Gathered) (input : List ℕ) (from : ℕ) (r : Gathered) (at : ℕ) : Type 0 where
+  pub sound : BlockReaderSound (r .block) (r .n)
+  pub on : from < at
+  pub within : at ≤ length input
   pub same :
       (station : ℕ) (role : Role) (board : plain.Plain) (lines : ℕ)
-      → heardBytes station role (acted station role board lines (r .reader)) (drop (r .at) input)
+      → heardBytes station role (acted station role board lines r) (drop at input)
       ≡ heardBytes station role (view e board lines) (drop from input)

@@ -1,15 +1,16 @@
-// Samples of a recording, gathered into blocks. A block of eight is short enough that a board that hears it ends one line at most
-// (proofs/SessionLaws.antt, one-line), so that each line's answer is seen.
+// Samples of a recording, gathered into blocks.
 use wav::Fault;
 use wav::Out;
 use wav::Wav;
 ghost use mathlib.Core.Path.{_≡_};
 ghost use Prim.Native.Nat.{_<_};
 ghost use lib.ListN.{length};
-ghost use Rattle.listen_app.specs.BlockReader.{BlockReaderSound, afterProgress, withSample, readerByte, isQuiet};
+ghost use Rattle.listen_app.specs.BlockReader.{BlockReaderSound, withSample, readerOut, isQuiet};
+ghost use Rattle.listen_app.specs.BlockReaderRep.{gathered, filled, Fills};
 ghost use Rattle.listen_app.specs.Listener.{Hears};
 
-pub const BLOCK: usize = 8;
+// The most samples that a write takes.
+pub const BLOCK: usize = 1024;
 
 // What the last byte brought: nothing to act on, the header, a full block, or why the recording is not read.
 pub enum Progress {
@@ -19,10 +20,9 @@ pub enum Progress {
     Bad(Fault),
 }
 
-// A reader of the recording, and the block that its samples fill.
+// A reader of the recording. Its samples fill a block that is lent.
 pub struct BlockReader {
     pub(crate) wav: Wav,
-    pub(crate) block: [f32; BLOCK],
     // How many samples of the block are in; 0 where it is full too.
     pub(crate) n: usize,
     pub(crate) progress: Progress,
@@ -34,78 +34,72 @@ pub struct Heard {
     pub(crate) at: usize,
 }
 
+// The part of a reader that a byte changes beside its `Wav`: small, so that no byte copies much.
+struct Filling {
+    n: usize,
+    progress: Progress,
+}
+
 impl BlockReader {
     pub fn new(wav: Wav) -> BlockReader
-        ensures { λ r. ⌜ BlockReaderSound r × (r .n ≡ 0) ⌝ }
+        ensures { λ r. ⌜ r .n ≡ 0 ⌝ }
     {
         BlockReader {
             wav,
-            block: [0.0; BLOCK],
             n: 0,
             progress: Progress::None,
         }
     }
+}
 
-    // The reader's next state, with this progress.
-    fn after(self, wav: Wav, progress: Progress) -> BlockReader
-        requires { ⌜ BlockReaderSound self ⌝ }
-        ensures { λ r. ⌜ BlockReaderSound r × (r ≡ afterProgress self wav progress) ⌝ }
-    {
-        let block = self.block;
-        let n = self.n;
-        BlockReader {
-            wav,
-            block,
-            n,
-            progress,
-        }
-    }
-
+impl Filling {
     // With one sample more. A full block is as good as an empty one: who hears of it takes it away.
-    fn with_sample(self, wav: Wav, x: f32) -> BlockReader
-        requires { ⌜ BlockReaderSound self ⌝ }
-        ensures { λ r. ⌜ BlockReaderSound r × (r ≡ withSample self wav x) ⌝ }
+    fn with_sample(self, x: f32, block: &mut [f32; BLOCK]) -> Filling
+        requires { ⌜ BlockReaderSound (now block) (self .n) ⌝ }
+        ensures { λ r. ⌜ Fills (λ v w. withSample (filled v self (now (block .entry))) w x) r (now (block .exit)) ⌝ }
     {
-        let at = self.n;
-        let mut block = self.block;
-        block[at] = x;
-        if at == 7 {
-            return BlockReader {
-                wav,
-                block,
+        let n = self.n;
+        block[n] = x;
+        if n + 1 == BLOCK {
+            return Filling {
                 n: 0,
                 progress: Progress::Block,
             };
         }
-        BlockReader {
-            wav,
-            block,
-            n: at + 1,
+        Filling {
+            n: n + 1,
             progress: Progress::None,
         }
     }
 
-    // One byte.
-    fn byte(self, b: u8) -> BlockReader
-        requires { ⌜ BlockReaderSound self ⌝ }
-        ensures { λ r. ⌜ BlockReaderSound r × (r ≡ readerByte self b) ⌝ }
+    // With what a byte brought.
+    fn after(self, out: Out, block: &mut [f32; BLOCK]) -> Filling
+        requires { ⌜ BlockReaderSound (now block) (self .n) ⌝ }
+        ensures { λ r. ⌜ Fills (λ v w. readerOut out (filled v self (now (block .entry))) w) r (now (block .exit)) ⌝ }
     {
-        let s = self.wav.add_byte(b);
-        let next = s.state;
-        let out = s.out;
+        let n = self.n;
         match out {
-            Out::Going => self.after(next, Progress::None),
-            Out::Start(rate) => self.after(next, Progress::Start(rate)),
-            Out::Sample(x) => self.with_sample(next, x),
-            Out::Bad(fault) => self.after(next, Progress::Bad(fault)),
+            Out::Going => Filling {
+                n,
+                progress: Progress::None,
+            },
+            Out::Start(rate) => Filling {
+                n,
+                progress: Progress::Start(rate),
+            },
+            Out::Sample(x) => self.with_sample(x, block),
+            Out::Bad(fault) => Filling {
+                n,
+                progress: Progress::Bad(fault),
+            },
         }
     }
 }
 
-fn is_quiet(reader: BlockReader) -> bool
-    ensures { λ r. ⌜ r ≡ isQuiet (reader .progress) ⌝ }
+fn is_quiet(f: Filling) -> bool
+    ensures { λ r. ⌜ r ≡ isQuiet (f .progress) ⌝ }
 {
-    let progress = reader.progress;
+    let progress = f.progress;
     match progress {
         Progress::None => true,
         Progress::Start(_) => false,
@@ -115,15 +109,25 @@ fn is_quiet(reader: BlockReader) -> bool
 }
 
 // Bytes from this place on, up to the first progress.
-pub fn hear(reader: BlockReader, input: &[u8], from: usize) -> Heard
-    requires { ⌜ BlockReaderSound reader × (from < length (now input)) ⌝ }
-    ensures { λ r. ⌜ Hears reader (now (input .entry)) from r ⌝ }
+pub fn hear(reader: BlockReader, block: &mut [f32; BLOCK], input: &[u8], from: usize) -> Heard
+    requires { ⌜ BlockReaderSound (now block) (reader .n) × (from < length (now input)) ⌝ }
+    ensures { λ r. ⌜ Hears (gathered reader (now (block .entry))) (now (input .entry)) from (gathered (r .reader) (now (block .exit))) (r .at) ⌝ }
 {
-    let mut e = reader.byte(input[from]);
-    let mut i = from + 1;
-    while i < input.len() && is_quiet(e) {
-        e = e.byte(input[i]);
+    let mut wav = reader.wav;
+    let mut f = Filling {
+        n: reader.n,
+        progress: Progress::None,
+    };
+    let mut i = from;
+    while i < input.len() && is_quiet(f) {
+        let s = wav.add_byte(input[i]);
+        wav = s.state;
+        let out = s.out;
+        f = f.after(out, block);
         i += 1;
     }
+    let n = f.n;
+    let progress = f.progress;
+    let e = BlockReader { wav, n, progress };
     Heard { reader: e, at: i }
 }

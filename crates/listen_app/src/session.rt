@@ -1,4 +1,5 @@
 // A board hears a recording, block by block.
+use crate::block_reader::BLOCK;
 use crate::block_reader::BlockReader;
 use crate::block_reader::Progress;
 use crate::block_reader::hear;
@@ -12,13 +13,18 @@ use console::print_reading;
 use wav::End;
 use wav::Wav;
 ghost use mathlib.Core.Path.{_≡_};
-ghost use Prim.Native.Nat.{_≤_};
+ghost use Prim.Native.Nat.{_+_, _≤_, min};
 ghost use lib.ListN.{length};
+ghost use Rattle.tide.specs.DecoderRep.{mostCount};
 ghost use Rattle.board.specs.Plain.{newOf};
-ghost use Rattle.board.specs.BoardRep.{plainOf, BoardSound};
-ghost use Rattle.listen_app.specs.BlockReader.{BlockReaderSound};
+ghost use Rattle.board.specs.BoardRep.{plainOf, answerOf, BoardSound};
+ghost use Rattle.listen_app.specs.BlockReader.{blockLength};
+ghost use Rattle.listen_app.specs.BlockReaderRep.{gathered};
 ghost use Rattle.listen_app.specs.Listener.{listenerOf, acted, heardBytes};
-ghost use Rattle.listen_app.specs.Session.{linesAfter, Wrote, SessionSound, listening};
+ghost use Rattle.listen_app.specs.Session.{mostLines, endedIn, linesAfter, Wrote, SessionSound, listening};
+
+// The most lines that a write can end.
+const MOST_LINES: usize = 103;
 
 // The board, and how many lines it has judged. The count holds at the most that it can say.
 pub struct NumberedBoard {
@@ -26,9 +32,24 @@ pub struct NumberedBoard {
     lines: u64,
 }
 
-// The line that a block ended, if it did, or why the block was refused.
-fn tell(lines: u64, answer: Answer) -> u64
-    ensures { λ r. ⌜ r ≡ linesAfter lines answer ⌝ }
+// Each line's number and answer.
+fn tell_lines(lines: u64, verdicts: &[u8]) -> u64
+    ensures { λ r. ⌜ r ≡ min (lines + length (now (verdicts .entry))) mostCount ⌝ }
+{
+    let mut k = lines;
+    let mut i = 0;
+    while i < verdicts.len() {
+        k = one_more(k);
+        print_answer(k, verdicts[i]);
+        i += 1;
+    }
+    k
+}
+
+// The lines that a block ended, or why the block was refused.
+fn tell(lines: u64, answer: Answer, verdicts: &[u8]) -> u64
+    requires { ⌜ endedIn (answerOf answer) ≤ length (now verdicts) ⌝ }
+    ensures { λ r. ⌜ r ≡ linesAfter lines (answerOf answer) ⌝ }
 {
     match answer {
         Answer::Refused(why) => {
@@ -37,30 +58,30 @@ fn tell(lines: u64, answer: Answer) -> u64
             io::write_all(1, b"\n");
             lines
         }
-        Answer::Heard {
-            bytes: _,
-            lines: ended,
-            last,
-        } => {
-            if ended == 0 {
-                return lines;
-            }
-            let k = one_more(lines);
-            print_answer(k, last);
-            k
+        Answer::Heard(x) => {
+            let n = x.lines as usize;
+            tell_lines(lines, &verdicts[..n])
         }
     }
 }
 
-// The next block of eight samples at the most.
+// Room for the answers of all lines that a write can end.
+fn no_verdicts() -> [u8; MOST_LINES]
+    ensures { λ r. ⌜ mostLines ≤ length r ⌝ }
+{
+    [0u8; MOST_LINES]
+}
+
+// The next block.
 fn write_block(s: NumberedBoard, samples: &[f32]) -> NumberedBoard
-    requires { ⌜ BoardSound (s .board) × (length (now samples) ≤ 8) ⌝ }
+    requires { ⌜ BoardSound (s .board) ⌝ }
     ensures { λ r. ⌜ Wrote s (now (samples .entry)) r ⌝ }
 {
     let board = s.board;
-    let w = board.write(samples);
+    let mut verdicts = no_verdicts();
+    let w = board.write_into(samples, &mut verdicts);
     let answer = w.answer;
-    let lines = tell(s.lines, answer);
+    let lines = tell(s.lines, answer, &verdicts);
     let next = w.state;
     NumberedBoard { board: next, lines }
 }
@@ -73,26 +94,30 @@ fn fresh_numbered(rate: u32, station: u16, role: Role) -> NumberedBoard
     NumberedBoard { board, lines: 0 }
 }
 
-// The board that hears the recording, and the reader of its bytes.
+// The board that hears the recording, the reader of its bytes, and the block that its samples fill.
 struct Session {
     numbered: NumberedBoard,
     reader: BlockReader,
+    block: [f32; BLOCK],
 }
 
 // Acts on the reader's progress.
-fn act_on(numbered: NumberedBoard, reader: BlockReader, station: u16, role: Role) -> NumberedBoard
-    requires { ⌜ BoardSound (numbered .board) × BlockReaderSound reader ⌝ }
-    ensures { λ r. ⌜ BoardSound (r .board) × (listenerOf r reader ≡ acted station role (plainOf (numbered .board)) (numbered .lines) reader) ⌝ }
+fn act_on(
+    numbered: NumberedBoard,
+    reader: BlockReader,
+    block: &[f32],
+    station: u16,
+    role: Role,
+) -> NumberedBoard
+    requires { ⌜ BoardSound (numbered .board) ⌝ }
+    ensures { λ r. ⌜ BoardSound (r .board) × (listenerOf r (gathered reader (now (block .entry))) ≡ acted station role (plainOf (numbered .board)) (numbered .lines) (gathered reader (now (block .entry)))) ⌝ }
 {
     let progress = reader.progress;
     match progress {
         Progress::None => numbered,
         Progress::Bad(_) => numbered,
         Progress::Start(rate) => fresh_numbered(rate, station, role),
-        Progress::Block => {
-            let block = reader.block;
-            write_block(numbered, &block)
-        }
+        Progress::Block => write_block(numbered, block),
     }
 }
 
@@ -103,14 +128,19 @@ fn hear_part(s: Session, input: &[u8], station: u16, role: Role) -> Session
 {
     let mut numbered = s.numbered;
     let mut reader = s.reader;
+    let mut block = s.block;
     let mut at = 0;
     while at < input.len() {
-        let h = hear(reader, input, at);
+        let h = hear(reader, &mut block, input, at);
         reader = h.reader;
         at = h.at;
-        numbered = act_on(numbered, reader, station, role);
+        numbered = act_on(numbered, reader, &block, station, role);
     }
-    Session { numbered, reader }
+    Session {
+        numbered,
+        reader,
+        block,
+    }
 }
 
 struct Turn {
@@ -174,17 +204,28 @@ fn close(s: Session, station: u16)
 {
     let reader = s.reader;
     let numbered = s.numbered;
-    let block = reader.block;
+    let block = s.block;
     let n = reader.n;
     let last = write_block(numbered, &block[..n]);
     print_reading(station, last.board.reading());
+}
+
+fn no_samples() -> [f32; BLOCK]
+    ensures { λ r. ⌜ length r ≡ blockLength ⌝ }
+{
+    [0.0; BLOCK]
 }
 
 // Hears standard input to its end, from a reader's first state on. A recording that is not whole gives no reading.
 fn hear_all(wav: Wav, rate: u32, station: u16, role: Role) {
     let numbered = fresh_numbered(rate, station, role);
     let reader = BlockReader::new(wav);
-    let s = read_all(Session { numbered, reader }, station, role);
+    let first = Session {
+        numbered,
+        reader,
+        block: no_samples(),
+    };
+    let s = read_all(first, station, role);
     let end = s.reader.wav.finish();
     match end {
         End::Whole => close(s, station),

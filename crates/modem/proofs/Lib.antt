@@ -1,6 +1,6 @@
 -- Laws that the proofs of the functions, and other crates, cite.
 pub mod Moves
-pub mod Hearing
+pub mod Taking
 pub mod Resampled
 pub mod Receiving
 pub mod QueueLaws

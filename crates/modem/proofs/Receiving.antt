@@ -14,10 +14,9 @@ use Rattle.resampling.specs.Resample.{State, Made, made, newOf, fresh, state}
 use Rattle.modem.specs.Rx.{Receiver, refusalOf, acceptedBy, wrote, written, unlessRefused}
 use Rattle.modem.specs.Write.{refusedBy}
 use Rattle.modem.specs.Samples.{allInRange}
-use Rattle.framing.proofs.FramingLaws.{held-most}
-use Rattle.demodulation.specs.Demod.{hearing}
-use Rattle.demodulation.proofs.DemodLaws.{hearing-few}
-use Rattle.demodulation.specs.declared.demod.Demodulator.{Demodulator}
+use Rattle.happenings.specs.Happening.{bytesIn}
+use Rattle.modem.specs.Listener.{Demod, heardBy, Listens}
+use Rattle.modem.proofs.RxLaws.{heard-most}
 use Rattle.refusal.specs.declared.Acceptance.{Acceptance}
 use Rattle.refusal.specs.declared.Acceptance.the-variants as acceptance
 
@@ -61,8 +60,9 @@ passes xs n waiting e =
     record { few = ltb-false _ _ (b .0); end = ltb-false _ _ (b .1); room = ltb-false _ _ (b .2) }
 
 -- "more than 409 of 512 received bytes wait": the bytes of one more write have room
-pub bytes-fit : (d : Demodulator) (ys : List Float) (waiting : ℕ) → waiting ≤ 409 → length ys ≤ 1026 → waiting + length (hearing d ys .bytes) ≤ 512
-bytes-fit d ys waiting w l = omega (arith, hearing-few d ys, held-most (d .core .deframer))
+pub bytes-fit : (d : Demod) (xs : List Float) (waiting : ℕ) → Listens d → waiting ≤ 409 → length xs ≤ 1024
+    → waiting + length (bytesIn (heardBy d xs .happenings)) ≤ 512
+bytes-fit d xs waiting l w h = omega (arith, heard-most d xs l)
 
 -- what an answer says of the number that it stands for
 module _ (r : Receiver) (xs : List Float) (a : Acceptance) (e : acceptanceOf a ≡ replyOf (refusalOf r xs)) where
@@ -78,3 +78,7 @@ module _ (r : Receiver) (xs : List Float) (a : Acceptance) (e : acceptanceOf a �
       by acceptance.Accepted zero e f = absurd (true≢false f)
       by (acceptance.Refused why) zero e f = let z : _≡_ {A = ℕ} 0 1 = cc in absurd (omega arith)
       by a (suc k) e f = ap (λ (x : Reply Unit). wrote x r) e
+
+pub not-none : (a : Acceptance) (k : ℕ) → acceptanceOf a ≡ replyOf k → isAccepted a ≡ false → k ≡ 0 → ⊥
+not-none acceptance.Accepted k e f z = true≢false f
+not-none (acceptance.Refused why) k e f z = let a = rw z at e in let y : _≡_ {A = ℕ} 0 1 = cc in omega arith

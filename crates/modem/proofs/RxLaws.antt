@@ -12,12 +12,15 @@ use Rattle.refusal.specs.Refusals.{dspRate, rateRefused}
 use Rattle.resampling.specs.Resample as resample
 use Rattle.resampling.proofs.ResampleLaws.{ran-few, ran-none, output-few}
 use Rattle.framing.specs.Framing.{held, AreBytes}
+use Rattle.framing.proofs.FramingLaws.{held-most}
 use Rattle.demodulation.specs.Demod.{freshDemodulator}
 use Rattle.demodulation.proofs.DemodLaws.{hearing-few, hearing-bytes, hearing-tuned, fresh-tuned}
-use Rattle.modem.specs.Rx.{Demod, heardBy, freshDemod}
+use Rattle.modem.specs.Listener.{Demod, heardBy, freshDemod, Listens, heardOver, samplesIn}
 use Rattle.modem.specs.Hear.{resampled}
 use Rattle.bell103.specs.declared.Role.{Role}
-use Rattle.modem.specs.Rx.{Listens, heardOver, samplesIn}
+use Rattle.demodulation.specs.declared.kind.Kind.{Kind}
+use Rattle.happenings.specs.Happening.{bytesIn}
+use Rattle.happenings.proofs.HappeningLaws.{bytes-append}
 
 -- ---- n samples make n + 2 steps at most, and none make none
 steps-few : (d : Demod) (xs : List Float) → Listens d → length (resampled (d .resampler) xs .out) ≤ 3 * length xs
@@ -30,14 +33,27 @@ steps-few d (x ∷ xs) l =
     subst (λ (z : ℕ). resample.maxOutputLen (d .resampler .src) z n ≤ n + 2) (sym (l .to)) (output-few (d .resampler .src) n (l .from)) in
     omega (arith, f, o)
 
+steps-most : (d : Demod) (xs : List Float) → Listens d → length (resampled (d .resampler) xs .out) ≤ length xs + 2
+unfolding resampled
+steps-most d xs l =
+    let n = length xs in
+    let o : resample.maxOutputLen (d .resampler .src) (d .resampler .dst) n ≤ n + 2 =
+    subst (λ (z : ℕ). resample.maxOutputLen (d .resampler .src) z n ≤ n + 2) (sym (l .to)) (output-few (d .resampler .src) n (l .from)) in
+    omega (arith, ran-few (d .resampler) xs, o)
+
 -- ---- a write
 -- ten for each byte heard are at most the bits held before and three for each sample
 pub heard-few : (d : Demod) (xs : List Float) → Listens d
-    → 10 * length (heardBy d xs .bytes) + held (heardBy d xs .after .inner .core .deframer) ≤ held (d .inner .core .deframer) + 3 * length xs
+    → 10 * length (bytesIn (heardBy d xs .happenings)) + held (heardBy d xs .after .inner .deframer) ≤ held (d .inner .deframer) + 3 * length xs
 unfolding heardBy
 heard-few d xs l = omega (arith, hearing-few (d .inner) (resampled (d .resampler) xs .out), steps-few d xs l)
 
-pub heard-bytes : (d : Demod) (xs : List Float) → Listens d → AreBytes (heardBy d xs .bytes)
+-- and at most the bits held before, one for each sample, and two
+pub heard-most : (d : Demod) (xs : List Float) → Listens d → 10 * length (bytesIn (heardBy d xs .happenings)) ≤ 11 + length xs
+unfolding heardBy
+heard-most d xs l = omega (arith, hearing-few (d .inner) (resampled (d .resampler) xs .out), steps-most d xs l, held-most (d .inner .deframer))
+
+pub heard-bytes : (d : Demod) (xs : List Float) → Listens d → AreBytes (bytesIn (heardBy d xs .happenings))
 unfolding heardBy
 heard-bytes d xs l = hearing-bytes (d .inner) (resampled (d .resampler) xs .out) (l .tuned)
 
@@ -46,26 +62,27 @@ unfolding heardBy
 heard-listens d xs l = record { from = l .from; to = l .to; tuned = hearing-tuned (d .inner) (resampled (d .resampler) xs .out) (l .tuned) }
 
 pub over-few : (d : Demod) (xss : List (List Float)) → Listens d
-    → 10 * length (heardOver d xss .bytes) + held (heardOver d xss .after .inner .core .deframer) ≤ held (d .inner .core .deframer) + 3 * samplesIn xss
+    → 10 * length (bytesIn (heardOver d xss .happenings)) + held (heardOver d xss .after .inner .deframer) ≤ held (d .inner .deframer) + 3 * samplesIn xss
 unfolding heardOver
-over-few d [] l = omega arith
+over-few d [] l = unfold bytesIn in omega arith
 over-few d (xs ∷ xss) l =
     let h = heardBy d xs in
     let rest = heardOver (h .after) xss in
-    rw (length-append (h .bytes) (rest .bytes)) (omega (arith, heard-few d xs l, over-few (h .after) xss (heard-listens d xs l)))
+    rw (bytes-append (h .happenings) (rest .happenings), length-append (bytesIn (h .happenings)) (bytesIn (rest .happenings))) (omega (arith, heard-few d xs l, over-few (h .after) xss (heard-listens d xs l)))
 
-pub fresh-listens : (rate : ℕ) (role : Role) → rateRefused rate ≡ false → Listens (freshDemod rate role)
+pub fresh-listens : (kind : Kind) (rate : ℕ) (role : Role) → rateRefused rate ≡ false → Listens (freshDemod kind rate role)
 unfolding freshDemod resample.fresh rateRefused
-fresh-listens rate role e = record { from = ltb-false rate dspRate (first-off (ltb rate dspRate) _ e); to = refl; tuned = fresh-tuned role }
+fresh-listens kind rate role e = record { from = ltb-false rate dspRate (first-off (ltb rate dspRate) _ e); to = refl; tuned = fresh-tuned kind role }
   where
     first-off : (a b : Bool) → a || b ≡ false → a ≡ false
     first-off true b e = e
     first-off false b e = refl
 
-pub fresh-idle : (rate : ℕ) (role : Role) → held (freshDemod rate role .inner .core .deframer) ≡ 0
+pub fresh-idle : (kind : Kind) (rate : ℕ) (role : Role) → held (freshDemod kind rate role .inner .deframer) ≡ 0
 unfolding freshDemod freshDemodulator
-fresh-idle rate role = refl
+fresh-idle kind rate role = refl
 
 -- from a fresh receiver on, the bytes heard number at most the samples accepted
-pub bytes-at-most-samples : (rate : ℕ) (role : Role) → rateRefused rate ≡ false → (xss : List (List Float)) → length (heardOver (freshDemod rate role) xss .bytes) ≤ samplesIn xss
-bytes-at-most-samples rate role e xss = omega (arith, over-few (freshDemod rate role) xss (fresh-listens rate role e), fresh-idle rate role)
+pub bytes-at-most-samples : (kind : Kind) (rate : ℕ) (role : Role) → rateRefused rate ≡ false → (xss : List (List Float))
+    → length (bytesIn (heardOver (freshDemod kind rate role) xss .happenings)) ≤ samplesIn xss
+bytes-at-most-samples kind rate role e xss = omega (arith, over-few (freshDemod kind rate role) xss (fresh-listens kind rate role e), fresh-idle kind rate role)

@@ -1,5 +1,5 @@
--- A call's samples, resampled and heard into lent queues. Assumes nothing.
-use Prim.Native.Nat.{ℕ, _+_, _≤_}
+-- A call's samples, resampled. Assumes nothing.
+use Prim.Native.Nat.{ℕ}
 use mathlib.Core.Path.{_≡_}
 use mathlib.Core.List.{List}
 use lib.ListN.{length, take}
@@ -7,10 +7,6 @@ use lib.Ieee.{Float}
 use Rattle.resampling.specs.Flow.{Ran}
 use Rattle.resampling.specs.Resample.{State, state, maxOutputLen, ranOver}
 use Rattle.resampling.specs.ResampleRep.{stateOf, Sound}
-use Rattle.demodulation.specs.Demod.{hearing, Tuned}
-use Rattle.modem.specs.Queue.{logged, EventsSound, EventsWait, loggingAll, Kept}
-use Rattle.demodulation.specs.declared.demod.Demodulator.{Demodulator}
-use Rattle.modem.specs.declared.queue.Events.{Events}
 use Rattle.resampling.specs.declared.resample.Resampler.{Resampler}
 
 -- the samples at 8,000 Hz that a list of samples makes, with the room that `max_output_len` gives
@@ -25,17 +21,3 @@ pub record Resamples (before : Resampler) (xs : List Float) (r : Resampler) (n :
   pub rate : r .«dst_rate» ≡ before .«dst_rate»
   pub sound : Sound r
   pub places : length after ≡ 1026
-
--- what hearing them asks: the bytes have room
-pub record Hearable (d : Demodulator) (xs : List Float) (held : List ℕ) (from : ℕ) (ev : Events) : Type 0 where
-  pub tuned : Tuned d
-  pub places : length held ≡ 512
-  pub room : from + length (hearing d xs .bytes) ≤ 512
-  pub events : EventsSound ev
-
--- samples at 8,000 Hz heard: the demodulator, the bytes behind the first `from` of an array, and the events
-pub record HearsInto (d : Demodulator) (xs : List Float) (from : ℕ) (held : List ℕ) (ev : Events) (d′ : Demodulator) (n : ℕ) (held′ : List ℕ) (ev′ : Events) : Type 0 where
-  pub after : d′ ≡ hearing d xs .after
-  pub kept : Kept from held (hearing d xs .bytes) n held′
-  pub events : EventsWait ev′ (loggingAll (logged ev) (hearing d xs .events))
-  pub tuned : Tuned d′

@@ -1,7 +1,9 @@
--- The definitions that the contracts of `modem` cite: queues, the checks of a write, what is heard, the receiver; `..Rep`: how the code holds it.
-pub mod Queue
+-- The definitions that the contracts of `modem` cite: the checks of a write, what hears, queues, the receiver; `..Rep`: how the code holds it.
 pub mod Samples
-pub mod Write
 pub mod Hear
+pub mod Listener
+pub mod ListenerRep
+pub mod Queue
+pub mod Write
 pub mod Rx
 pub mod RxRep

@@ -14,6 +14,9 @@ use Rattle.demodulation.specs.declared.demod.Event.{Event}
 use Rattle.demodulation.specs.Demod.{eventsOf}
 use Rattle.demodulation.specs.declared.demod.Event.the-variants.{CarrierUp, CarrierDown}
 use Rattle.modem.specs.declared.queue.NextEvent.{NextEvent}
+use Rattle.modem.specs.declared.queue.Queues.{Queues}
+use Rattle.happenings.specs.Happening.{bytesIn, changesIn}
+use Rattle.happenings.specs.declared.happening.Happening.{Happening}
 
 -- the m elements from place k on stand at the front, in as many places
 pub record Moved {A : Type 0} (k m : ℕ) (before after : List A) : Type 0 where
@@ -106,3 +109,15 @@ pub record Pops (q : Events) (r : NextEvent) : Type 0 where
 -- the last n of a list, or all of a shorter one
 abbrev pub newest : ℕ → List Bool → List Bool
 newest n l = drop (length l - n) l
+
+-- ---- what was heard, into both
+-- the bytes have room
+pub record Takable (q : Queues) (hs : List Happening) : Type 0 where
+  pub bytes : BytesSound (q .bytes)
+  pub events : EventsSound (q .events)
+  pub room : q .bytes .count + length (bytesIn hs) ≤ mostBytes
+
+-- the bytes heard wait behind those that waited, all of them; the changes of the report are logged
+pub record TakesIn (q : Queues) (hs : List Happening) (r : Queues) : Type 0 where
+  pub bytes : BytesWait (r .bytes) (queued (q .bytes) ++ bytesIn hs)
+  pub events : EventsWait (r .events) (loggingAll (logged (q .events)) (changesIn hs))

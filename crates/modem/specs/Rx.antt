@@ -1,50 +1,20 @@
--- The receiver (rx.rs): the resampler and the demodulator, which hear; two queues; and the number of samples accepted. Assumes nothing.
-use Prim.Native.Nat.{ℕ, zero, suc, _+_, _≤_}
-use mathlib.Core.Bool.{Bool, true, not}
-use mathlib.Core.List.{List, [], _++_, _∷_}
+-- The receiver (rx.rs): what hears; two queues; and the number of samples accepted. Assumes nothing.
+use Prim.Native.Nat.{ℕ, zero, suc, _+_}
+use mathlib.Core.Bool.{Bool}
+use mathlib.Core.List.{List, [], _++_}
 use lib.ListN.{length, take, drop}
 use lib.Ieee.{Float}
 use Rattle.numeric.specs.If.{if_then_else_}
-use Rattle.refusal.specs.Refusals.{dspRate, Reply, given, refused, replyOf, rateRefused, first, numberOf}
-use Rattle.resampling.specs.Resample as resample
-use Rattle.demodulation.specs.Demod.{hearing, freshDemodulator, Tuned}
+use Rattle.refusal.specs.Refusals.{dspRate, Reply, given, refused, replyOf, rateRefused}
+use Rattle.demodulation.specs.Demod.{reported}
 use Rattle.modem.specs.Write.{refusedBy}
-use Rattle.modem.specs.Hear.{resampled}
+use Rattle.modem.specs.Listener.{Demod, heardBy, freshDemod}
+use Rattle.happenings.specs.Happening.{bytesIn, changesIn}
 use Rattle.modem.specs.Queue.{loggingAll, readCount, readInto, readRest}
 use Rattle.bell103.specs.declared.Role.{Role}
-use Rattle.demodulation.specs.declared.demod.Demodulator.{Demodulator}
-use mathlib.Core.Path.{_≡_}
-use Rattle.refusal.specs.declared.Refusal.{Refusal}
+use Rattle.demodulation.specs.declared.kind.Kind.the-variants.{Bare}
 
--- ---- what hears
-pub record Demod : Type 0 where
-  pub resampler : resample.State
-  pub inner : Demodulator
-
-abbrev pub demod : resample.State → Demodulator → Demod
-demod s d = record { resampler = s; inner = d }
-
--- what a list of samples is heard as: the state after them, the bytes heard and the carrier events, in order
-pub record Heard : Type 0 where
-  pub after : Demod
-  pub bytes : List ℕ
-  pub events : List Bool
-
-unfoldable pub heardBy : Demod → List Float → Heard
-heardBy d xs =
-    let r = resampled (d .resampler) xs in
-    let h = hearing (d .inner) (r .out) in
-    record {
-      after = demod (resample.state (d .resampler .src) (d .resampler .dst) (r .flow)) (h .after);
-      bytes = h .bytes;
-      events = h .events;
-    }
-
--- fresh, for a device rate and the role of this end
-unfoldable pub freshDemod : ℕ → Role → Demod
-freshDemod rate role = demod (resample.fresh rate dspRate) (freshDemodulator role)
-
--- ---- the receiver: the bytes that wait and the events that wait are lists, oldest first
+-- ---- the bare receiver, which does as the Rust does: the bytes that wait and the events that wait are lists, oldest first
 pub record Receiver : Type 0 where
   pub demod : Demod
   pub waiting : List ℕ
@@ -55,7 +25,7 @@ abbrev pub receiver : Demod → List ℕ → List Bool → ℕ → Receiver
 receiver d w e n = record { demod = d; waiting = w; logged = e; accepted = n }
 
 unfoldable pub freshReceiver : ℕ → Role → Receiver
-freshReceiver rate role = receiver (freshDemod rate role) [] [] 0
+freshReceiver rate role = receiver (freshDemod Bare rate role) [] [] 0
 
 -- ---- `new`
 pub record Made : Type 0 where
@@ -84,7 +54,7 @@ wrote a r = record { answer = a; state = r }
 unfoldable pub acceptedBy : Receiver → List Float → Receiver
 acceptedBy r xs =
     let h = heardBy (r .demod) xs in
-    receiver (h .after) (r .waiting ++ h .bytes) (loggingAll (r .logged) (h .events)) (r .accepted + length xs)
+    receiver (h .after) (r .waiting ++ bytesIn (h .happenings)) (loggingAll (r .logged) (changesIn (h .happenings))) (r .accepted + length xs)
 
 -- "A refused call returns its number alone and leaves state and buffers untouched"
 abbrev pub unlessRefused : ℕ → Receiver → Receiver → Written
@@ -121,53 +91,7 @@ eventOf r = taken (take 1 (r .logged)) (receiver (r .demod) (r .waiting) (drop 1
 
 -- the latched report
 abbrev pub carrierOf : Receiver → Bool
-carrierOf r = r .demod .inner .core .latch .qualified
+carrierOf r = reported (r .demod .inner)
 
 abbrev pub errorsOf : Receiver → ℕ
-errorsOf r = r .demod .inner .core .deframer .errors
-
--- a Demod that a fresh one and its writes gave: it goes down to 8,000 Hz
-pub record Listens (d : Demod) : Type 0 where
-  pub from : dspRate ≤ d .resampler .src
-  pub to : d .resampler .dst ≡ dspRate
-  pub tuned : Tuned (d .inner)
-
--- ---- a list of accepted writes, one after the other
-unfoldable pub heardOver : Demod → List (List Float) → Heard
-heardOver d [] = record { after = d; bytes = []; events = [] }
-heardOver d (xs ∷ xss) =
-    let h = heardBy d xs in
-    let rest = heardOver (h .after) xss in
-    record { after = rest .after; bytes = h .bytes ++ rest .bytes; events = h .events ++ rest .events }
-
--- the number of their samples
-abbrev pub samplesIn : List (List Float) → ℕ
-samplesIn [] = 0
-samplesIn (xs ∷ xss) = length xs + samplesIn xss
-
--- ---- `new`: the rate that it makes a state at, and its answer
-unfoldable pub admitted : ℕ → ℕ
-admitted rate = if rateRefused rate then dspRate else rate
-
--- accepted: no check applied, and the bytes heard joined those that waited
-pub record Accepts (r : Receiver) (xs : List Float) (after : Receiver) : Type 0 where
-  pub number : refusalOf r xs ≡ 0
-  pub demod : after .demod ≡ heardBy (r .demod) xs .after
-  pub waiting : after .waiting ≡ r .waiting ++ heardBy (r .demod) xs .bytes
-  pub logged : after .logged ≡ loggingAll (r .logged) (heardBy (r .demod) xs .events)
-  pub accepted : after .accepted ≡ r .accepted + length xs
-
--- refused: its number, which is not 0, and nothing changed
-pub record Refuses (r : Receiver) (xs : List Float) (why : Refusal) (after : Receiver) : Type 0 where
-  pub number : refusalOf r xs ≡ numberOf why
-  pub some : numberOf why ≡ 0 → ⊥
-  pub same : after ≡ r
-
--- ---- `read`, with room for all that wait
-pub record ReadsAll (r : Receiver) (n : ℕ) (after : Receiver) (buf : List ℕ) : Type 0 where
-  pub count : n ≡ length (r .waiting)
-  pub bytes : take n buf ≡ r .waiting
-  pub demod : after .demod ≡ r .demod
-  pub waiting : after .waiting ≡ []
-  pub logged : after .logged ≡ r .logged
-  pub accepted : after .accepted ≡ r .accepted
+errorsOf r = r .demod .inner .deframer .errors

@@ -1,13 +1,14 @@
 // The receiver's two queues, oldest first: bytes heard, and carrier events.
 use demodulation::Event;
-use framing::frame::Heard;
+use happenings::Happening;
+use happenings::happening_of;
 ghost use mathlib.Core.Path.{_≡_};
 ghost use mathlib.Core.List.{[], _∷_, _++_};
 ghost use Prim.Native.Nat.{_+_, _≤_, _<_, min};
 ghost use lib.ListN.{length, take, drop};
-ghost use Rattle.framing.specs.Frame.{bytesOf};
+ghost use Rattle.happenings.specs.Happening.{byteOf, changeOf, happeningsOf};
 ghost use Rattle.modem.specs.Queue.{BytesSound, BytesWait, Kept, Moved, Drains};
-ghost use Rattle.modem.specs.Queue.{EventsSound, EventsWait, eventsIn, logged, logging, loggingAll, eventOf, Pops};
+ghost use Rattle.modem.specs.Queue.{EventsSound, EventsWait, eventsIn, logged, logging, loggingAll, eventOf, Pops, Takable, TakesIn};
 ghost use Rattle.demodulation.specs.Demod.{eventsOf};
 
 // Received bytes: the first `count` wait.
@@ -22,8 +23,8 @@ pub struct Drained {
     pub count: usize,
 }
 
-// One more byte, behind the n that wait. The array is lent, so that a loop over samples copies it once.
-pub fn keep_at(held: &mut [u8; 512], n: usize, b: u8) -> usize
+// One more byte, behind the n that wait. The array is lent, so that a loop copies it once.
+fn keep_at(held: &mut [u8; 512], n: usize, b: u8) -> usize
     requires { ⌜ (n < 512) × (length (now held) ≡ 512) ⌝ }
     ensures { λ r. ⌜ Kept n (now (held .entry)) (b ∷ []) r (now (held .exit)) ⌝ }
 {
@@ -31,14 +32,16 @@ pub fn keep_at(held: &mut [u8; 512], n: usize, b: u8) -> usize
     n + 1
 }
 
-// The byte that a bit completed, if it did. Answers how many wait.
-pub fn keep_heard(held: &mut [u8; 512], n: usize, heard: Heard) -> usize
-    requires { ⌜ (n + length (bytesOf heard) ≤ 512) × (length (now held) ≡ 512) ⌝ }
-    ensures { λ r. ⌜ Kept n (now (held .entry)) (bytesOf heard) r (now (held .exit)) ⌝ }
+// The byte of a happening, if it is one. Answers how many wait.
+fn keep_heard(held: &mut [u8; 512], n: usize, h: Happening) -> usize
+    requires { ⌜ (n + length (byteOf h) ≤ 512) × (length (now held) ≡ 512) ⌝ }
+    ensures { λ r. ⌜ Kept n (now (held .entry)) (byteOf h) r (now (held .exit)) ⌝ }
 {
-    match heard {
-        Heard::Byte(b) => keep_at(held, n, b),
-        Heard::Waiting => n,
+    match h {
+        Happening::Byte(b) => keep_at(held, n, b),
+        Happening::Lost => n,
+        Happening::Up => n,
+        Happening::Down => n,
     }
 }
 
@@ -142,15 +145,16 @@ fn log_at(held: &mut [bool; 64], n: usize, up: bool) -> usize
     64
 }
 
-// The event that a step brought, if it did. The array is lent, as that of the bytes is.
-pub fn log_into(held: &mut [bool; 64], n: usize, event: Event) -> usize
+// The change of a happening, if it is one. The array is lent, as that of the bytes is.
+fn log_into(held: &mut [bool; 64], n: usize, h: Happening) -> usize
     requires { ⌜ EventsSound (eventsIn (now held) n) ⌝ }
-    ensures { λ r. ⌜ EventsWait (eventsIn (now (held .exit)) r) (loggingAll (logged (eventsIn (now (held .entry)) n)) (eventsOf event)) ⌝ }
+    ensures { λ r. ⌜ EventsWait (eventsIn (now (held .exit)) r) (loggingAll (logged (eventsIn (now (held .entry)) n)) (changeOf h)) ⌝ }
 {
-    match event {
-        Event::Nothing => n,
-        Event::CarrierUp => log_at(held, n, true),
-        Event::CarrierDown => log_at(held, n, false),
+    match h {
+        Happening::Byte(_) => n,
+        Happening::Lost => n,
+        Happening::Up => log_at(held, n, true),
+        Happening::Down => log_at(held, n, false),
     }
 }
 
@@ -192,4 +196,36 @@ impl Events {
         let state = Events { held, count: n - 1 };
         NextEvent { state, event }
     }
+}
+
+// The two queues.
+pub struct Queues {
+    pub bytes: Bytes,
+    pub events: Events,
+}
+
+// The bytes and the changes of what was heard, by its codes, behind those that wait.
+pub fn take_in(q: Queues, codes: &[u16]) -> Queues
+    requires { ⌜ Takable q (happeningsOf (now codes)) ⌝ }
+    ensures { λ r. ⌜ TakesIn q (happeningsOf (now (codes .entry))) r ⌝ }
+{
+    let bytes0 = q.bytes;
+    let events0 = q.events;
+    let mut held = bytes0.held;
+    let mut logged = events0.held;
+    let mut count = bytes0.count;
+    let mut events_count = events0.count;
+    let mut i = 0;
+    while i < codes.len() {
+        let h = happening_of(codes[i]);
+        count = keep_heard(&mut held, count, h);
+        events_count = log_into(&mut logged, events_count, h);
+        i += 1;
+    }
+    let bytes = Bytes { held, count };
+    let events = Events {
+        held: logged,
+        count: events_count,
+    };
+    Queues { bytes, events }
 }

@@ -1,39 +1,35 @@
-// The receiver: device samples in, bytes and carrier events out.
-use crate::hear::hear;
-use crate::hear::hear_plain;
-use crate::hear::resample_into;
+// The bare receiver: device samples in, bytes and carrier events out, as the Rust's.
+use crate::listener::Listener;
+use crate::listener::accept;
 use crate::queue::Bytes;
 use crate::queue::Events;
+use crate::queue::Queues;
+use crate::queue::take_in;
 use crate::write::check;
 use bell103::Role;
 use demodulation::Demodulator;
 use demodulation::Event;
+use demodulation::Kind;
 use refusal::Acceptance;
-use refusal::DSP_RATE;
-use refusal::Refusal;
 use refusal::is_accepted;
-use refusal::rate_ok;
 use resampling::Resampler;
 ghost use mathlib.Core.Path.{_≡_};
-ghost use mathlib.Core.Bool.{true, false};
 ghost use Prim.Native.Nat.{_≤_};
 ghost use lib.ListN.{length};
-ghost use Rattle.refusal.specs.Refusals.{acceptanceOf, rateRefused};
-ghost use Rattle.resampling.specs.Resample.{equalRates};
+ghost use Rattle.refusal.specs.Refusals.{acceptanceOf};
 ghost use Rattle.resampling.specs.ResampleRep.{stateOf, Sound};
-ghost use Rattle.demodulation.specs.Demod.{eventsOf, Tuned};
+ghost use Rattle.demodulation.specs.Demod.{eventsOf};
+ghost use Rattle.demodulation.specs.DemodRep.{demodulatorOf, DemodSound};
+ghost use Rattle.happenings.specs.Codes.{Codes};
 ghost use Rattle.modem.specs.Queue.{mostBytes, mostEvents};
 ghost use Rattle.modem.specs.Write.{refusedBy};
-ghost use Rattle.modem.specs.Rx.{newOf, made, freshReceiver, acceptedBy, written, wrote, readOf, readOut, eventOf, taken, carrierOf, errorsOf};
+ghost use Rattle.modem.specs.Rx.{newOf, made, acceptedBy, written, wrote, readOf, readOut, eventOf, taken, carrierOf, errorsOf};
 ghost use Rattle.modem.specs.RxRep.{receiverOf, RxSound};
 
 pub struct Rx {
-    resampler: Resampler,
-    demod: Demodulator,
+    listener: Listener,
     out: Bytes,
     events: Events,
-    // Samples accepted so far.
-    accepted: u64,
 }
 
 // What `new` answers, and the state; refused, it gives the one at 8,000.
@@ -60,110 +56,49 @@ pub struct TakenEvent {
     pub state: Rx,
 }
 
-fn zeros_1026() -> [f64; 1026] {
-    [0.0f64; 1026]
+fn no_codes() -> [u16; 2052]
+    ensures { λ r. ⌜ Codes r ⌝ }
+{
+    [0u16; 2052]
 }
 
-// The state after a write that no check refused, at 8,000 Hz. The resampler would copy, so it is left alone.
-fn accept_plain(mut rx: Rx, samples: &[f32]) -> Rx
-    requires { ⌜ RxSound rx × (refusedBy (now samples) (rx .accepted) (rx .out .count) ≡ 0) × (equalRates (stateOf (rx .resampler)) ≡ true) ⌝ }
+// The state after a write that no check refused: the bytes and the changes of what was heard go into the queues.
+fn accept_all(mut rx: Rx, samples: &[f32]) -> Rx
+    requires { ⌜ RxSound rx × (refusedBy (now samples) (rx .listener .accepted) (rx .out .count) ≡ 0) ⌝ }
     ensures { λ r. ⌜ (receiverOf r ≡ acceptedBy (receiverOf rx) (now (samples .entry))) × RxSound r ⌝ }
 {
-    let demod0 = rx.demod;
-    let out0 = rx.out;
-    let events0 = rx.events;
-    let mut held = out0.held;
-    let h = hear_plain(demod0, samples, &mut held, out0.count, events0);
-    let demod = h.demod;
-    let events = h.events;
-    let out = Bytes {
-        held,
-        count: h.count,
-    };
-    rx.demod = demod;
+    let listener0 = rx.listener;
+    let bytes = rx.out;
+    let events = rx.events;
+    let mut codes = no_codes();
+    let t = accept(listener0, samples, &mut codes);
+    let listener = t.state;
+    let count = t.count;
+    let waiting = Queues { bytes, events };
+    let q = take_in(waiting, &codes[..count]);
+    let out = q.bytes;
+    let logged = q.events;
+    rx.listener = listener;
     rx.out = out;
-    rx.events = events;
-    rx.accepted += samples.len() as u64;
+    rx.events = logged;
     rx
-}
-
-// The same, at another rate.
-fn accept_resampled(rx: Rx, samples: &[f32]) -> Rx
-    requires { ⌜ RxSound rx × (refusedBy (now samples) (rx .accepted) (rx .out .count) ≡ 0) ⌝ }
-    ensures { λ r. ⌜ (receiverOf r ≡ acceptedBy (receiverOf rx) (now (samples .entry))) × RxSound r ⌝ }
-{
-    let resampler0 = rx.resampler;
-    let demod0 = rx.demod;
-    let out0 = rx.out;
-    let events0 = rx.events;
-    let mut scratch = zeros_1026();
-    let p = resample_into(resampler0, samples, &mut scratch);
-    let resampler = p.state;
-    let count = p.count;
-    let mut held = out0.held;
-    let h = hear(demod0, &scratch[..count], &mut held, out0.count, events0);
-    let demod = h.demod;
-    let events = h.events;
-    let out = Bytes {
-        held,
-        count: h.count,
-    };
-    Rx {
-        resampler,
-        demod,
-        out,
-        events,
-        accepted: rx.accepted + samples.len() as u64,
-    }
-}
-
-// The state after a write that no check refused.
-fn accept(rx: Rx, samples: &[f32]) -> Rx
-    requires { ⌜ RxSound rx × (refusedBy (now samples) (rx .accepted) (rx .out .count) ≡ 0) ⌝ }
-    ensures { λ r. ⌜ (receiverOf r ≡ acceptedBy (receiverOf rx) (now (samples .entry))) × RxSound r ⌝ }
-{
-    let resampler = rx.resampler;
-    if resampler.is_identity() {
-        return accept_plain(rx, samples);
-    }
-    accept_resampled(rx, samples)
-}
-
-// A fresh receiver on an admitted rate.
-fn fresh_at(rate: u32, role: Role) -> Rx
-    requires { ⌜ rateRefused rate ≡ false ⌝ }
-    ensures { λ r. ⌜ (receiverOf r ≡ freshReceiver rate role) × RxSound r ⌝ }
-{
-    let c = Resampler::new(rate, DSP_RATE);
-    let resampler = c.state;
-    let demod = Demodulator::new(role);
-    let out = Bytes::new();
-    let events = Events::new();
-    Rx {
-        resampler,
-        demod,
-        out,
-        events,
-        accepted: 0,
-    }
 }
 
 impl Rx {
     pub fn new(rate: u32, role: Role) -> Created
         ensures { λ r. ⌜ (made (acceptanceOf (r .answer)) (receiverOf (r .state)) ≡ newOf rate role) × RxSound (r .state) ⌝ }
     {
-        if rate_ok(rate) {
-            let state = fresh_at(rate, role);
-            return Created {
-                answer: Acceptance::Accepted,
-                state,
-            };
-        }
-        let state = fresh_at(DSP_RATE, role);
-        Created {
-            answer: Acceptance::Refused(Refusal::Rate),
-            state,
-        }
+        let o = Listener::new(Kind::Bare, rate, role);
+        let answer = o.answer;
+        let listener = o.state;
+        let out = Bytes::new();
+        let events = Events::new();
+        let state = Rx {
+            listener,
+            out,
+            events,
+        };
+        Created { answer, state }
     }
 
     // The next samples, in order and gapless.
@@ -171,9 +106,9 @@ impl Rx {
         requires { ⌜ RxSound self ⌝ }
         ensures { λ r. ⌜ (wrote (acceptanceOf (r .answer)) (receiverOf (r .state)) ≡ written (receiverOf self) (now (samples .entry))) × RxSound (r .state) ⌝ }
     {
-        let answer = check(samples, self.accepted, self.out.count);
+        let answer = check(samples, self.listener.accepted, self.out.count);
         if is_accepted(answer) {
-            let state = accept(self, samples);
+            let state = accept_all(self, samples);
             return Written { answer, state };
         }
         Written {
@@ -214,14 +149,16 @@ impl Rx {
     pub fn carrier_detected(self) -> bool
         ensures { λ r. ⌜ r ≡ carrierOf (receiverOf self) ⌝ }
     {
-        let d = self.demod;
+        let l = self.listener;
+        let d = l.demod;
         d.carrier_detected()
     }
 
     pub fn framing_errors(self) -> u32
         ensures { λ r. ⌜ r ≡ errorsOf (receiverOf self) ⌝ }
     {
-        let d = self.demod;
+        let l = self.listener;
+        let d = l.demod;
         let f = d.deframer();
         f.framing_errors()
     }
@@ -246,7 +183,7 @@ impl Rx {
         requires { ⌜ RxSound self ⌝ }
         ensures { λ r. ⌜ (r ≡ receiverOf self .accepted) × (r ≤ 4294967296) ⌝ }
     {
-        self.accepted
+        self.listener.accepted
     }
 
     // What it hears with.
@@ -254,15 +191,17 @@ impl Rx {
         requires { ⌜ RxSound self ⌝ }
         ensures { λ r. ⌜ (stateOf r ≡ receiverOf self .demod .resampler) × Sound r ⌝ }
     {
-        let resampler = self.resampler;
+        let l = self.listener;
+        let resampler = l.resampler;
         resampler
     }
 
     pub fn demodulator(self) -> Demodulator
         requires { ⌜ RxSound self ⌝ }
-        ensures { λ r. ⌜ (r ≡ receiverOf self .demod .inner) × Tuned r ⌝ }
+        ensures { λ r. ⌜ (demodulatorOf r ≡ receiverOf self .demod .inner) × DemodSound r ⌝ }
     {
-        let demod = self.demod;
+        let l = self.listener;
+        let demod = l.demod;
         demod
     }
 }

@@ -8,7 +8,7 @@ use lib.Dec.{ltb}
 use borrow.Author.Tests.{lt-ltb, le-ltb, ltb-false}
 use lib.ListN.{length}
 use lib.Ieee.{Float}
-use Rattle.refusal.specs.Refusals.{Reply, given, first, replyOf, acceptanceOf, isAccepted, rateRefused, ratesRefused}
+use Rattle.refusal.specs.Refusals.{Reply, given, first, replyOf, acceptanceOf, isAccepted, rateRefused, ratesRefused, highestRate}
 use Rattle.modulation.specs.Bits.{queued}
 use Rattle.resampling.specs.Resample as resample
 use Rattle.resampling.proofs.Place.{start-reached}
@@ -41,9 +41,9 @@ neither : (a b : Bool) → a || b ≡ false → (a ≡ false) × (b ≡ false)
 neither true b e = absurd (true≢false e)
 neither false b e = (refl, e)
 
-pub in-range : (rate : ℕ) → rateRefused rate ≡ false → (8000 ≤ rate) × (rate ≤ 48000)
+pub in-range : (rate : ℕ) → rateRefused rate ≡ false → (8000 ≤ rate) × (rate ≤ highestRate)
 unfolding rateRefused
-in-range rate e = let p = neither (ltb rate 8000) (ltb 48000 rate) e in (ltb-false _ _ (p .0), ltb-false _ _ (p .1))
+in-range rate e = let p = neither (ltb rate 8000) (ltb highestRate rate) e in (ltb-false _ _ (p .0), ltb-false _ _ (p .1))
 
 -- ---- `read`
 pub none-refused : (served n : ℕ) → readRefused served n ≡ 0 → (n ≤ 1024) × (served + n ≤ 4294967296)

@@ -6,6 +6,7 @@ use native.Mathlib.Nat.{lt-of-mul-lt-mul-right, div-add-mod, mod-lt, mul-comm, m
 use native.Mathlib.Omega.{arith}
 use lib.Dec.{eqb}
 use borrow.Author.Tests.{ne-eqb}
+use Rattle.refusal.specs.Refusals.{highestRate}
 use Rattle.numeric.specs.If.{if_then_else_}
 use Rattle.numeric.specs.Counts.{need, outputLen}
 use Rattle.resampling.specs.Resample.{maxOutputLen}
@@ -43,7 +44,7 @@ need-over rate r h =
     top q rate r h a = let b : q < r + 1 = lt-of-mul-lt-mul-right rate (omega (arith, mul-comm rate q, add-mul r 1 rate)) in omega arith
 
 -- the surplus: at rates to 48,000 a pass makes at most 14 samples more than it is asked for
-pub surplus : (rate r : ℕ) → 8000 ≤ rate → rate ≤ 48000 → maxOutputLen 8000 rate (need r rate) ≤ r + 14
+pub surplus : (rate r : ℕ) → 8000 ≤ rate → rate ≤ highestRate → maxOutputLen 8000 rate (need r rate) ≤ r + 14
 unfolding maxOutputLen
 surplus rate r l h = by (eqb 8000 rate)
   where

@@ -1,13 +1,16 @@
 -- At a rate of 8,000: a pass for r samples makes r and one more, and leaves the resampler as it is. Assumes nothing.
 use Prim.Native.Nat.{ℕ, _+_, _-_, _<_, _≤_}
-use mathlib.Core.Path.{_≡_, sym, _∙_, subst}
+use mathlib.Core.Path.{_≡_, sym, ap, _∙_, subst}
+use mathlib.Core.Bool.{true}
 use mathlib.Core.List.{List, [], _++_, map}
 use native.Mathlib.Nat.{le-trans}
 use native.Mathlib.Omega.{arith}
+use lib.Dec.{eqb}
 use lib.ListN.{length, take, drop}
 use lib.Ieee.{Float}
 use Rattle.numeric.specs.Counts.{need}
-use Rattle.resampling.specs.Resample.{State, state, ranOver}
+use Rattle.resampling.specs.Resample.{State, state, ranOver, maxOutputLen}
+use Rattle.resampling.proofs.ResampleLaws.{equal-rates}
 use Rattle.resampling.specs.Flow.{ran}
 use Rattle.resampling.specs.ResampleRep.{stateOf}
 use Rattle.refusal.specs.declared.Acceptance.the-variants.{Accepted}
@@ -18,6 +21,7 @@ use Rattle.modulation.specs.ModulatorRep.{keyerOf, pendingIn, HandsOver,
 use Rattle.modulation.specs.TxRep.{modulatorOf, TxSound, FillsWhole, after, Parts, FillsPlaces}
 use Rattle.modulation.specs.declared.modulate.Wave.{Wave}
 use Rattle.modulation.specs.declared.tx.Tx.{Tx}
+use Rattle.modulation.proofs.Tones.{generated-length}
 use Rattle.modulation.proofs.Filling.{Going, going-start, going-end, so-turn, pending-none, soFar}
 
 need-equal : (r : ℕ) → need r 8000 ≡ r + 1
@@ -28,8 +32,12 @@ module _ (t : TonePair) (k : Keyer) (s : State) (a : Float) (r : ℕ) (src : s .
   m = modulator 8000 t k s [] a
 
   made-equal : madeFor m r ≡ ran (generated (r + 1) t k .samples) (s .flow)
-  unfolding ranOver
-  made-equal = rw (src, dst, need-equal r)
+  made-equal =
+      let xs = generated (need r 8000) t k .samples in
+      let same : eqb (s .src) (s .dst) ≡ true = rw (src, dst) in
+      ap (λ (n : ℕ). ranOver s (maxOutputLen (s .src) (s .dst) n) xs) (sym (generated-length (need r 8000) t k))
+      ∙ equal-rates s xs same
+      ∙ ap (λ (n : ℕ). ran (generated n t k .samples) (s .flow)) (need-equal r)
 
   pass-equal : pass m r
       ≡ passed (take r (map (scaled a) (generated (r + 1) t k .samples))) (modulator 8000 t (generated (r + 1) t k .after) s (drop r (map (scaled a) (generated (r + 1) t k .samples))) a)

@@ -11,6 +11,7 @@ use borrow.Author.Tests.{ltb-true, ltb-false, ne-eqb}
 use lib.ListN.{length, take, drop, length-take, length-drop, length-map}
 use lib.Seq.{take-all, take-append-add, take-append-le, length-take-le, drop-drop}
 use lib.Ieee.{Float}
+use Rattle.refusal.specs.Refusals.{highestRate}
 use Rattle.numeric.specs.Bounds.{AtMost}
 use Rattle.numeric.specs.Counts.{need}
 use Rattle.resampling.specs.Flow.{Flow, Ran, fed, Reached}
@@ -108,7 +109,7 @@ record Brings (j most : ℕ) (s : State) (count : ℕ) : Type 0 where
   fed-on : Fed (j + 1) most s
   some : 1 ≤ j → 1 ≤ count
 
-module _ (rate : ℕ) (low : 8000 < rate) (high : rate ≤ 48000) (j most r : ℕ) (R : 1 ≤ r) (R′ : r ≤ 1024) (few : most + 1025 < 2 ^ 51) where
+module _ (rate : ℕ) (low : 8000 < rate) (high : rate ≤ highestRate) (j most r : ℕ) (R : 1 ≤ r) (R′ : r ≤ 1024) (few : most + 1025 < 2 ^ 51) where
   short : AtMost (filterOf 8000 rate .step) 1 (2 ^ 0)
   unfolding filterOf
   short = step-short rate (omega arith) high

@@ -8,15 +8,13 @@ use lib.ListN.{length, take, drop, length-drop, length-map}
 use lib.Seq.{take-at, length-take-le, take-append-seam}
 use lib.Ieee.{Float}
 use Rattle.numeric.specs.Counts.{need}
-use Rattle.refusal.specs.Refusals.{countOf, countIn}
-use Rattle.refusal.proofs.RefusalLaws.{count-given}
+use Rattle.refusal.specs.Refusals.{given}
 use Rattle.modulation.specs.Bits.{BitsHeld}
-use Rattle.resampling.specs.Resample.{State, ranOver, maxOutputLen, Outcome, outcome, processed}
+use Rattle.resampling.specs.Resample.{State, state, ranOver, ranInto, maxOutputLen, outcome}
 use Rattle.resampling.specs.Flow.{Ran}
-use Rattle.resampling.proofs.ResampleLaws.{accepted, ran-few}
+use Rattle.resampling.proofs.ResampleLaws.{ran-within, run-count, run-state, run-samples}
 use Rattle.resampling.specs.ResampleRep as resample
 use Rattle.resampling.specs.ResampleRep.{stateOf}
-use Rattle.refusal.specs.declared.Counted.{Counted}
 use Rattle.bell103.specs.declared.TonePair.{TonePair}
 use Rattle.resampling.specs.declared.resample.Resampler.{Resampler}
 use Rattle.modulation.specs.declared.modulate.Wave.{Wave}
@@ -49,28 +47,19 @@ shares xs a n c ys tail zs behind e ey ez l =
     }
 
 -- ---- `make`
-pub makes : (a : List Bool) (t : TonePair) (w w′ : Wave) (r r′ : Resampler) (n : ℕ) (xs out out′ : List Float) (answer : Counted) (count : ℕ)
-    → sound xs (keyerOf a w′) ≡ generated n t (keyerOf a w) → BitsHeld a (w′ .head) (w′ .waiting) → n ≤ 2048 → length out ≡ maxOutputLen (r .«src_rate») (r .«dst_rate») n
-    → length out′ ≡ length out → outcome (countOf answer) (stateOf r′) out′ ≡ processed (stateOf r) xs out → resample.Sound r′ → count ≡ countIn answer
-    → MakesInto a t w r n out′ count w′ r′
+pub makes : (a : List Bool) (t : TonePair) (w w′ : Wave) (r r′ : Resampler) (n : ℕ) (xs out out′ : List Float) (count : ℕ)
+    → sound xs (keyerOf a w′) ≡ generated n t (keyerOf a w) → BitsHeld a (w′ .head) (w′ .waiting) → length out′ ≡ length out
+    → outcome (given count) (stateOf r′) out′ ≡ ranInto (stateOf r) xs out → resample.Sound r′ → MakesInto a t w r n out′ count w′ r′
 unfolding stateOf
-makes a t w w′ r r′ n xs out out′ answer count eg held few lo lo′ ep snd ec =
-    let g = generated n t (keyerOf a w) in
-    let ex : xs ≡ g .samples = ap (λ (z : Sound). z .samples) eg in
-    let lx : length xs ≡ n = ap length ex ∙ generated-length n t (keyerOf a w) in
-    let lm : length out ≡ maxOutputLen (r .«src_rate») (r .«dst_rate») (length xs) = lo ∙ ap (maxOutputLen (r .«src_rate») (r .«dst_rate»)) (sym lx) in
+makes a t w w′ r r′ n xs out out′ count eg held lo ep snd =
+    let ex : xs ≡ generated n t (keyerOf a w) .samples = ap (λ (z : Sound). z .samples) eg in
     let R = ranOver (stateOf r) (length out) xs in
-    let f = ep ∙ accepted (stateOf r) xs out (omega arith) (omega (arith, lm)) in
-    let c : count ≡ length (R .out) = ec ∙ count-given answer (length (R .out)) (ap (λ (z : Outcome). z .answer) f) in
-    let oo : out′ ≡ R .out ++ drop (length (R .out)) out = ap (λ (z : Outcome). z .out) f in
-    let fit : length (R .out) ≤ length out = rw lm (ran-few (stateOf r) xs) in
-    let same : R ≡ ranOver (stateOf r) (length out′) (g .samples) = ap₂ (ranOver (stateOf r)) (sym lo′) ex in
+    let same : R ≡ ranOver (stateOf r) (length out′) (generated n t (keyerOf a w) .samples) = ap₂ (ranOver (stateOf r)) (sym lo) ex in
     record {
       keyer = ap (λ (z : Sound). z .after) eg;
-      samples = ap₂ take c oo ∙ take-append-seam (R .out) _ ∙ ap (λ (z : Ran). z .out) same;
-      within = omega arith;
-      places = lo′ ∙ lo;
-      state = ap (λ (z : Outcome). z .state) f ∙ ap (λ (z : Ran). Rattle.resampling.specs.Resample.state (r .«src_rate») (r .«dst_rate») (z .flow)) same;
+      samples = run-samples (stateOf r) (stateOf r′) xs out out′ count ep ∙ ap (λ (z : Ran). z .out) same;
+      within = omega (arith, run-count (stateOf r) (stateOf r′) xs out out′ count ep, ran-within (stateOf r) (length out) xs);
+      state = run-state (stateOf r) (stateOf r′) xs out out′ count ep ∙ ap (λ (z : Ran). state (r .«src_rate») (r .«dst_rate») (z .flow)) same;
       sound = snd;
       held = held;
     }
@@ -84,21 +73,20 @@ module _ (rate : ℕ) (t : TonePair) (amp : Float) (a : List Bool) (w w′ : Wav
   abbrev before : Modulator
   before = modulator rate t (keyerOf a w) (stateOf r) [] amp
 
-  pub pass-into : Rising rate r → MakesInto a t w r (need n rate) out k w′ r′
+  pub pass-into : Rising rate r → length out ≡ maxOutputLen 8000 rate (need n rate) → MakesInto a t w r (need n rate) out k w′ r′
       → SharesInto (take k out) amp n rest count pending → PassesInto before n a rest count pending (k - count) w′ r′
   unfolding pass handed batch stateOf
-  pass-into up m s =
+  pass-into up lo m s =
       let f = scaled amp in
       let lk : length (take k out) ≡ k = length-take-le k out (m .within) in
-      let lo : length out ≡ maxOutputLen 8000 rate (need n rate) = rw (up .src, up .dst) at (m .places) in
       let R : ranOver (stateOf r) (length out) (generated (need n rate) t (keyerOf a w) .samples) ≡ madeFor before n =
-      ap (λ (l : ℕ). ranOver (stateOf r) l (generated (need n rate) t (keyerOf a w) .samples)) (m .places) in
+      ap (λ (l : ℕ). ranOver (stateOf r) l (generated (need n rate) t (keyerOf a w) .samples)) (rw (up .src, up .dst) lo) in
       let made : take k out ≡ madeFor before n .out = m .samples ∙ ap (λ (z : Ran). z .out) R in
       let z0 : k - count - 0 ≡ length (take k out) - count = omega arith in
       record {
         is =
             joined rate t amp (s .samples ∙ ap (λ (l : List Float). take n (map f l)) made) (m .keyer)
-            (m .state ∙ ap (λ (z : Ran). Rattle.resampling.specs.Resample.state (r .«src_rate») (r .«dst_rate») (z .flow)) R)
+            (m .state ∙ ap (λ (z : Ran). state (r .«src_rate») (r .«dst_rate») (z .flow)) R)
             (ap (λ (i : ℕ). take i pending) z0 ∙ s .surplus ∙ ap (λ (l : List Float). drop n (map f l)) made);
         within = omega (arith, s .count-is);
         dry = λ h. omega (arith, s .count-is, lk);

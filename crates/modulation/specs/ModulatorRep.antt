@@ -6,7 +6,8 @@ use mathlib.Core.List.{List, [], _∷_, map}
 use lib.ListN.{length, take, drop}
 use lib.Ieee.{Float}
 use Rattle.modulation.specs.Bits.{queued, BitsHeld}
-use Rattle.resampling.specs.Resample.{state, ranOver, maxOutputLen}
+use Rattle.refusal.specs.Refusals.{dspRate, highestRate}
+use Rattle.resampling.specs.Resample.{state, ranOver}
 use Rattle.resampling.specs.ResampleRep as resample
 use Rattle.resampling.specs.ResampleRep.{stateOf}
 use Rattle.modulation.specs.Tone.{Keyer, keyer, generated}
@@ -40,10 +41,10 @@ modulatorBy a s w r = modulator (s .rate) (s .tones) (keyerOf a w) (stateOf r) [
 
 -- a resampler from 8,000 to this rate
 pub record Rising (rate : ℕ) (r : Resampler) : Type 0 where
-  pub low : 8000 ≤ rate
-  pub high : rate ≤ 48000
+  pub low : dspRate ≤ rate
+  pub high : rate ≤ highestRate
   pub sound : resample.Sound r
-  pub src : r .«src_rate» ≡ 8000
+  pub src : r .«src_rate» ≡ dspRate
   pub dst : r .«dst_rate» ≡ rate
 
 -- 64 places, and what is pending stands in some of them
@@ -57,7 +58,6 @@ pub record MakesInto (a : List Bool) (tones : TonePair) (w : Wave) (r : Resample
   pub keyer : keyerOf a w′ ≡ generated n tones (keyerOf a w) .after
   pub samples : take count out ≡ ranOver (stateOf r) (length out) (generated n tones (keyerOf a w) .samples) .out
   pub within : count ≤ length out
-  pub places : length out ≡ maxOutputLen (r .«src_rate») (r .«dst_rate») n
   pub state : stateOf r′ ≡ state (r .«src_rate») (r .«dst_rate») (ranOver (stateOf r) (length out) (generated n tones (keyerOf a w) .samples) .flow)
   pub sound : resample.Sound r′
   pub held : BitsHeld a (w′ .head) (w′ .waiting)

@@ -12,6 +12,7 @@ use Rattle.bell103.specs.declared.TonePair.{TonePair}
 use Rattle.modulation.specs.declared.modulate.Wave.{Wave}
 use Rattle.resampling.specs.Flow.{Reached}
 use Rattle.modulation.specs.Tx.{Sender, sender, filling, filled}
+use Rattle.refusal.specs.Refusals.{dspRate}
 use Rattle.refusal.specs.declared.Acceptance.{Acceptance}
 use Rattle.refusal.specs.declared.Acceptance.the-variants.{Accepted}
 use Rattle.modulation.specs.declared.tx.Tx.{Tx}
@@ -89,7 +90,7 @@ afterFilled t pending f n = after t (f .wave) (t .resampler) pending (f .from) (
 
 -- a slice of n places filled whole for each sender at 8,000 that has these parts, whatever its resampler holds
 pub record FillsPlaces (p : Parts) (n : ℕ) (out pending : List Float) (f : Filled) : Type 0 where
-  pub whole : (t : Tx) → p ≡ partsOf t → TxSound t → t .rate ≡ 8000 → t .served + n ≤ 4294967296
+  pub whole : (t : Tx) → p ≡ partsOf t → TxSound t → t .rate ≡ dspRate → t .served + n ≤ 4294967296
       → FillsWhole t n out Accepted (f .passes) (afterFilled t pending f n)
 
 -- the same, of parts one by one

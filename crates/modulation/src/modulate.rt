@@ -10,7 +10,7 @@ use numeric::ends::smaller;
 use numeric::phase::turn;
 use numeric::sine::sine;
 use numeric::sines::sines;
-use refusal::count_in;
+use refusal::DSP_RATE;
 use resampling::Resampler;
 ghost use mathlib.Core.Path.{_≡_};
 ghost use mathlib.Core.List.{map};
@@ -18,6 +18,7 @@ ghost use Prim.Native.Nat.{_+_, _*_, _≤_, _<_};
 ghost use lib.ListN.{length};
 ghost use Rattle.numeric.specs.Counts.{need};
 ghost use Rattle.modulation.specs.Bits.{queued, BitsHeld};
+ghost use Rattle.refusal.specs.Refusals.{dspRate, highestRate};
 ghost use Rattle.resampling.specs.Resample.{maxOutputLen};
 ghost use Rattle.resampling.specs.ResampleRep.{Sound};
 ghost use Rattle.modulation.specs.Tone.{toneOf, keyed, tick, ticked, sound, generated};
@@ -236,18 +237,18 @@ fn share(xs: &[f64], a: f32, pending: &mut [f32], rest: &mut [f32]) -> usize
 
 // How many samples at 8,000 Hz a pass for n samples generates.
 fn need_for(n: usize, rate: u32) -> usize
-    requires { ⌜ (8000 ≤ rate) × (n ≤ 1024) ⌝ }
+    requires { ⌜ (dspRate ≤ rate) × (n ≤ 1024) ⌝ }
     ensures { λ r. ⌜ r ≡ need n rate ⌝ }
 {
-    ceiling((n as u64) * 8000, rate as u64) as usize + 1
+    ceiling((n as u64) * (DSP_RATE as u64), rate as u64) as usize + 1
 }
 
 // How many samples the resampler can make of k, between unequal rates.
 fn room_for(k: usize, rate: u32) -> usize
-    requires { ⌜ (8000 < rate) × (rate ≤ 48000) × (k ≤ 1025) ⌝ }
-    ensures { λ r. ⌜ r ≡ maxOutputLen 8000 rate k ⌝ }
+    requires { ⌜ (dspRate < rate) × (rate ≤ highestRate) × (k ≤ 1025) ⌝ }
+    ensures { λ r. ⌜ r ≡ maxOutputLen dspRate rate k ⌝ }
 {
-    nearest((k as u64) * (rate as u64), 8000) as usize + 2
+    nearest((k as u64) * (rate as u64), DSP_RATE as u64) as usize + 2
 }
 
 struct Made {
@@ -256,7 +257,7 @@ struct Made {
     resampler: Resampler,
 }
 
-// Generates as many samples as `scratch` has places, and resamples them to the front of `out`.
+// Generates as many samples as `scratch` has places, and resamples them to the front of `out`, as far as it goes.
 fn make(
     bits: &[bool; 4096],
     t: TonePair,
@@ -265,18 +266,14 @@ fn make(
     scratch: &mut [f64],
     out: &mut [f64],
 ) -> Made
-    requires { ⌜
-        WaveHeld (now bits) w × Sound r × (length (now scratch) ≤ 2048)
-        × (length (now out) ≡ maxOutputLen (r .«src_rate») (r .«dst_rate») (length (now scratch))) ⌝ }
+    requires { ⌜ WaveHeld (now bits) w × Sound r ⌝ }
     ensures { λ m. ⌜ MakesInto (now (bits .entry)) t w r (length (now (scratch .entry))) (now (out .exit)) (m .count) (m .wave) (m .resampler) ⌝ }
 {
     let wave = generate(bits, t, w, scratch);
-    let p = r.process(scratch, out);
+    let p = r.run(scratch, out);
     let resampler = p.state;
-    let answer = p.answer;
-    let count = count_in(answer);
     Made {
-        count,
+        count: p.count,
         wave,
         resampler,
     }
@@ -309,7 +306,7 @@ fn pass_in(
     rest: &mut [f32],
 ) -> Passed
     requires { ⌜ WaveHeld (now bits) w × Rising (s .rate) r × (length (now rest) ≤ 1024) × (length (now pending) ≡ 64) ⌝ }
-    requires { ⌜ (length (now scratch) ≡ need (length (now rest)) (s .rate)) × (length (now out) ≡ maxOutputLen 8000 (s .rate) (need (length (now rest)) (s .rate))) ⌝ }
+    requires { ⌜ (length (now scratch) ≡ need (length (now rest)) (s .rate)) × (length (now out) ≡ maxOutputLen dspRate (s .rate) (need (length (now rest)) (s .rate))) ⌝ }
     ensures { λ p. ⌜ PassesOver (now (bits .entry)) s w r (length (now (rest .entry))) (now (rest .exit)) (now (pending .exit)) p ⌝ }
 {
     let t = s.tones;
@@ -347,7 +344,7 @@ fn pass_short(
     pending: &mut [f32],
     rest: &mut [f32],
 ) -> Passed
-    requires { ⌜ WaveHeld (now bits) w × Rising (s .rate) r × (8000 < s .rate) × (length (now rest) ≤ 64) × (length (now pending) ≡ 64) ⌝ }
+    requires { ⌜ WaveHeld (now bits) w × Rising (s .rate) r × (dspRate < s .rate) × (length (now rest) ≤ 64) × (length (now pending) ≡ 64) ⌝ }
     ensures { λ p. ⌜ PassesOver (now (bits .entry)) s w r (length (now (rest .entry))) (now (rest .exit)) (now (pending .exit)) p ⌝ }
 {
     let n = rest.len();
@@ -376,7 +373,7 @@ fn pass_long(
     pending: &mut [f32],
     rest: &mut [f32],
 ) -> Passed
-    requires { ⌜ WaveHeld (now bits) w × Rising (s .rate) r × (8000 < s .rate) × (length (now rest) ≤ 1024) × (length (now pending) ≡ 64) ⌝ }
+    requires { ⌜ WaveHeld (now bits) w × Rising (s .rate) r × (dspRate < s .rate) × (length (now rest) ≤ 1024) × (length (now pending) ≡ 64) ⌝ }
     ensures { λ p. ⌜ PassesOver (now (bits .entry)) s w r (length (now (rest .entry))) (now (rest .exit)) (now (pending .exit)) p ⌝ }
 {
     let n = rest.len();
@@ -405,7 +402,7 @@ pub(crate) fn pass(
     pending: &mut [f32],
     rest: &mut [f32],
 ) -> Passed
-    requires { ⌜ WaveHeld (now bits) w × Rising (s .rate) r × (8000 < s .rate) × (length (now rest) ≤ 1024) × (length (now pending) ≡ 64) ⌝ }
+    requires { ⌜ WaveHeld (now bits) w × Rising (s .rate) r × (dspRate < s .rate) × (length (now rest) ≤ 1024) × (length (now pending) ≡ 64) ⌝ }
     ensures { λ p. ⌜ PassesOver (now (bits .entry)) s w r (length (now (rest .entry))) (now (rest .exit)) (now (pending .exit)) p ⌝ }
 {
     if rest.len() <= 64 {

@@ -22,11 +22,11 @@ ghost use mathlib.Core.Path.{_≡_};
 ghost use mathlib.Core.Bool.{not, false};
 ghost use Prim.Native.Nat.{_+_, _*_, _≤_, _<_};
 ghost use lib.ListN.{length};
-ghost use Rattle.refusal.specs.Refusals.{acceptanceOf, countOf, replyOf, rateRefused};
+ghost use Rattle.refusal.specs.Refusals.{acceptanceOf, countOf, replyOf, dspRate, rateRefused};
 ghost use Rattle.modulation.specs.Bits.{BitsHeld};
 ghost use Rattle.modulation.specs.ModulatorRep.{PendingHeld};
 ghost use Rattle.modulation.specs.Tx.{freshSender, made, newOf, readRefused, reading, readOf, adjusted, amplitudeRefused, amplitudeOf, pendingOf, durationOf};
-ghost use Rattle.modulation.specs.TxRep.{senderOf, TxSound, FillsWhole, FillsBy, after, afterFilled};
+ghost use Rattle.modulation.specs.TxRep.{senderOf, TxSound, FillsWhole, FillsBy, after};
 
 pub struct Tx {
     rate: u32,
@@ -94,30 +94,15 @@ fn fill_places(
     }
 }
 
-// The sender after such a slice, of n samples.
-fn with_filled(mut t: Tx, pending: [f32; 64], f: Filled, n: usize) -> Tx
-    requires { ⌜ t .served + n ≤ 4294967296 ⌝ }
-    ensures { λ r. ⌜ r ≡ afterFilled t pending f n ⌝ }
-{
-    let wave = f.wave;
-    t.wave = wave;
-    t.pending = pending;
-    t.from = f.from;
-    t.upto = f.upto;
-    t.served += n as u64;
-    t
-}
-
-// A slice at 8,000.
-fn fill_equal(t: Tx, out: &mut [f32]) -> Reading
-    requires { ⌜ TxSound t × (t .rate ≡ 8000) × (length (now out) ≤ 1024) × (t .served + length (now out) ≤ 4294967296) ⌝ }
+// A slice at 8,000. The state is changed where it stands, and a copy of its bits is lent: each other way that was measured copies more.
+fn fill_equal(mut t: Tx, out: &mut [f32]) -> Reading
+    requires { ⌜ TxSound t × (t .rate ≡ dspRate) × (length (now out) ≤ 1024) × (t .served + length (now out) ≤ 4294967296) ⌝ }
     ensures { λ r. ⌜ FillsWhole t (length (now (out .entry))) (now (out .exit)) (r .answer) (r .passes) (r .state) ⌝ }
 {
     let bits = t.bits;
     let tones = t.tones;
     let w = t.wave;
     let mut pending = t.pending;
-    let n = out.len();
     let f = fill_places(
         &bits,
         tones,
@@ -128,11 +113,16 @@ fn fill_equal(t: Tx, out: &mut [f32]) -> Reading
         t.upto,
         out,
     );
-    let state = with_filled(t, pending, f, n);
+    let wave = f.wave;
+    t.wave = wave;
+    t.pending = pending;
+    t.from = f.from;
+    t.upto = f.upto;
+    t.served += out.len() as u64;
     Reading {
         answer: Acceptance::Accepted,
         passes: f.passes,
-        state,
+        state: t,
     }
 }
 
@@ -160,7 +150,7 @@ fn with_passes(
 
 // At higher rates: what is pending, then passes over the unwritten rest of the slice, until it is full.
 fn fill_rising(t: Tx, out: &mut [f32]) -> Reading
-    requires { ⌜ TxSound t × (8000 < t .rate) × (length (now out) ≤ 1024) × (t .served + length (now out) ≤ 4294967296) ⌝ }
+    requires { ⌜ TxSound t × (dspRate < t .rate) × (length (now out) ≤ 1024) × (t .served + length (now out) ≤ 4294967296) ⌝ }
     ensures { λ r. ⌜ FillsWhole t (length (now (out .entry))) (now (out .exit)) (r .answer) (r .passes) (r .state) ⌝ }
 {
     let bits = t.bits;

@@ -8,3 +8,6 @@ pub mod FlowLaws
 pub mod ResampleLaws
 pub mod Place
 pub mod NumberLaws
+pub mod Settled
+pub mod Flowing
+pub mod Starving

@@ -11,7 +11,7 @@ use lib.Seq.{append-snoc, length-take-le, take-all, take-suc-set}
 use lib.Ieee.{Float, nan}
 use Rattle.numeric.specs.F64.{zero64}
 use Rattle.numeric.specs.If.{if_then_else_}
-use Rattle.resampling.specs.Design.{lowpass}
+use Rattle.resampling.specs.Design.{lowpass, mostTaps}
 use Rattle.resampling.specs.Resample.{tapsOf, faster}
 use Rattle.resampling.specs.FilterRep.{ringBack, walk, historyOf}
 use Rattle.resampling.specs.FlowRep.{flowOf}
@@ -32,7 +32,7 @@ clear-step xs a n i l h e =
     let s : i + 1 - n ≡ i - n + 1 = omega arith in
     rw (s, add-one i, take-suc-set a i zero64 h, e, append-assoc (take n xs)) (ap (λ (r : List Float). take n xs ++ r) (replicate-append-replicate (i - n) 1 zero64 ∙ rw (add-one (i - n))))
 
-pub clear-end : (xs a : List Float) (n i : ℕ) → i ≡ 373 → length a ≡ 373 → take i a ≡ take n xs ++ replicate (i - n) zero64 → a ≡ take n xs ++ replicate (373 - n) zero64
+pub clear-end : (xs a : List Float) (n i : ℕ) → i ≡ mostTaps → length a ≡ mostTaps → take i a ≡ take n xs ++ replicate (i - n) zero64 → a ≡ take n xs ++ replicate (mostTaps - n) zero64
 clear-end xs a n i is long e =
     let all : take i a ≡ a = take-all i a (omega arith) in
     rw (← is) (sym all ∙ e)
@@ -72,12 +72,12 @@ module _ (r : Resampler) (s : Sound r) where
           let z : length (tapsOf (r .«src_rate») (r .«dst_rate»)) ≡ 0 = ap (λ (x : Bool). length (if x then [] else lowpass (faster (r .«src_rate») (r .«dst_rate»)))) (sym (s .identity) ∙ e) in
           absurd (omega (arith, z, taps-length, some))
 
-  pub taps-shown : (xs : List Float) → xs ≡ take (r .«n_taps») (r .taps) ++ replicate (373 - r .«n_taps») zero64 → xs ≡ tapNumbers (stateOf r)
+  pub taps-shown : (xs : List Float) → xs ≡ take (r .«n_taps») (r .taps) ++ replicate (mostTaps - r .«n_taps») zero64 → xs ≡ tapNumbers (stateOf r)
   unfolding stateOf
   taps-shown xs is = rw (taps-length, ← s .taps) is
 
   pub history-shown : (newest xs : List Float) → take (r .«n_taps») newest ≡ historyOf (r .«n_taps») (r .moving .«fir_pos») (r .«fir_hist»)
-      → xs ≡ take (r .«n_taps») newest ++ replicate (373 - r .«n_taps») zero64 → xs ≡ historyNumbers (stateOf r)
+      → xs ≡ take (r .«n_taps») newest ++ replicate (mostTaps - r .«n_taps») zero64 → xs ≡ historyNumbers (stateOf r)
   unfolding stateOf flowOf
   history-shown newest xs are is =
       let n = history-length (r .«n_taps») (r .moving .«fir_pos») (r .«fir_hist») in

@@ -11,6 +11,7 @@ use lib.ListN.{length}
 use borrow.Author.Tests.{lt-ltb, le-ltb, ltb-true, ltb-false}
 use lib.Ieee.{Float, nan, inf, fin, round, sub, lt, ofInt, ofBits}
 use lib.Ieee.Positive.{num, den, den-pos}
+use Rattle.refusal.specs.Refusals.{dspRate, highestRate}
 use Rattle.numeric.specs.F64.{_⊕_, _⊖_, _⊘_, _<ᶠ_, whole, zero64, one64, two64}
 use Rattle.numeric.specs.If.{if_then_else_}
 use Rattle.numeric.proofs.Whole.{add-whole, sub-whole, lt-whole, div-whole}
@@ -18,8 +19,9 @@ use Rattle.numeric.specs.Bounds.{nonNegative, AtMost}
 use Rattle.numeric.proofs.BoundLaws.{at-most-more, add-at-most, round-at-most}
 use Rattle.resampling.specs.Flow.{Filter, Flow, Out, Ran, ran, wants, windowed, pushed, emitted, drained, fed, zeroWindow, flow}
 use Rattle.resampling.specs.Flow.{Reached, Moved}
+use Rattle.resampling.proofs.FlowLaws.{drained-none}
 
-one-is : one64 ≡ whole 1
+pub one-is : one64 ≡ whole 1
 unfolding ofBits ofInt round
 one-is = refl
 
@@ -37,7 +39,7 @@ none-below (fin false m e) p zero h = sym (le-ltb (num (fin false m e)) (0 * den
 none-below (fin false m e) p (suc zero) h = sym (le-ltb (num (fin false m e)) (0 * den (fin false m e)) (omega (arith, zero-mul (den (fin false m e)))))
 none-below (fin false m e) p (suc (suc k)) h = absurd (omega arith)
 
-wants-at : (x : Float) (k : ℕ) → T (nonNegative x) → k < 2 ^ 53 → x <ᶠ whole k ⊖ two64 ≡ ltb (num x) ((k - 2) * den x)
+pub wants-at : (x : Float) (k : ℕ) → T (nonNegative x) → k < 2 ^ 53 → x <ᶠ whole k ⊖ two64 ≡ ltb (num x) ((k - 2) * den x)
 wants-at x k p h = go (ltb k 2) refl
   where
     go : (b : Bool) → ltb k 2 ≡ b → x <ᶠ whole k ⊖ two64 ≡ ltb (num x) ((k - 2) * den x)
@@ -57,9 +59,14 @@ never-below a zero d h = absurd (omega (arith, zero-mul d))
 never-below a (suc n) d h = omega arith
 
 -- a property of a choice
-either : {A : Type 0} (P : A → Type 0) (b : Bool) (u v : A) → (b ≡ true → P u) → (b ≡ false → P v) → P (if b then u else v)
+pub either : {A : Type 0} (P : A → Type 0) (b : Bool) (u v : A) → (b ≡ true → P u) → (b ≡ false → P v) → P (if b then u else v)
 either P true u v f g = f refl
 either P false u v f g = g refl
+
+-- a sample that goes in leaves the next output's place as it is
+pub pushed-place : (f : Filter) (x : Float) (s : Flow) → pushed f x s .place ≡ s .place
+unfolding pushed
+pushed-place f x s = either (λ (t : Flow). t .place ≡ s .place) (f .decimating) _ _ (λ _. refl) (λ _. refl)
 
 pub start-reached : (h : List Float) → Reached 0 (flow h zeroWindow zero64 zero64)
 unfolding ofBits ofInt round
@@ -79,10 +86,6 @@ module _ (f : Filter) (short : AtMost (f .step) 1 (2 ^ 0)) where
   unfolding pushed
   pushed-reached x k s l p =
       either (Reached (k + 1)) (f .decimating) _ _ (λ _. windowed-reached k s _ _ l p) (λ _. windowed-reached k s _ _ l p)
-
-  pushed-place : (x : Float) (s : Flow) → pushed f x s .place ≡ s .place
-  unfolding pushed
-  pushed-place x s = either (λ (t : Flow). t .place ≡ s .place) (f .decimating) _ _ (λ _. refl) (λ _. refl)
 
   -- ---- one sample out
   advanced-reached : (k : ℕ) (s : Flow) (h : List Float) → Reached k s → wants s ≡ true → Reached k (flow h (s .window) (s .place ⊕ f .step) (s .count))
@@ -136,14 +139,9 @@ module _ (f : Filter) (short : AtMost (f .step) 1 (2 ^ 0)) where
   fed-some zero x xs s h w = absurd (omega arith)
   fed-some (suc room) x xs s h w = rw w (either (λ (r : Ran). 1 ≤ length (r .out)) (wants _) _ _ (λ v. omega arith) (λ v. omega arith))
 
-  drained-none : (room : ℕ) (s : Flow) → wants s ≡ false → drained f room s ≡ ran [] s
-  unfolding drained
-  drained-none zero s w = refl
-  drained-none (suc room) s w = rw w
-
   fed-on : (room : ℕ) (x : Float) (xs : List Float) (s : Flow) → wants (pushed f x s) ≡ false → fed f room (x ∷ xs) s .out ≡ fed f room xs (pushed f x s) .out
   unfolding fed
-  fed-on room x xs s w = let z : room - 0 ≡ room = omega arith in rw (drained-none room (pushed f x s) w, w, z)
+  fed-on room x xs s w = let z : room - 0 ≡ room = omega arith in rw (drained-none f room (pushed f x s) w, w, z)
 
   back : (k : ℕ) → k + 1 + 1 - 2 ≡ k
   back k = omega arith
@@ -152,7 +150,7 @@ module _ (f : Filter) (short : AtMost (f .step) 1 (2 ^ 0)) where
   wants-second x y k s l h p =
       let p1 = pushed-reached x k s (omega arith) p in
       let p2 = pushed-reached y (k + 1) (pushed f x s) (omega arith) p1 in
-      let same : pushed f y (pushed f x s) .place ≡ s .place = pushed-place y (pushed f x s) ∙ pushed-place x s in
+      let same : pushed f y (pushed f x s) .place ≡ s .place = pushed-place f y (pushed f x s) ∙ pushed-place f x s in
       let u : num (s .place) * 1 ≤ (k - 1) * den (s .place) = p .at .under in
       let v : (k - 1) * den (s .place) < k * den (s .place) = mul-lt-mul-of-pos-right (omega arith) (den-pos (s .place)) in
       wants-is (k + 1 + 1) (pushed f y (pushed f x s)) p2
@@ -170,7 +168,7 @@ module _ (f : Filter) (short : AtMost (f .step) 1 (2 ^ 0)) where
       go false w = rw (fed-on room x (y ∷ xs) s w) (fed-some room y xs (pushed f x s) r (wants-second x y k s l h p))
 
 -- going up in rate, a step is 1 at most
-pub step-short : (rate : ℕ) → 8000 ≤ rate → rate ≤ 48000 → AtMost (whole 8000 ⊘ whole rate) 1 (2 ^ 0)
+pub step-short : (rate : ℕ) → dspRate ≤ rate → rate ≤ highestRate → AtMost (whole dspRate ⊘ whole rate) 1 (2 ^ 0)
 step-short rate h l =
     subst (λ (z : Float). AtMost z 1 (2 ^ 0)) (sym (div-whole 8000 rate (omega arith) (lit≤ tt) (omega arith)))
     (round-at-most 8000 rate 1 0 (omega arith) (lit< tt) (lit≤ tt) (omega arith))

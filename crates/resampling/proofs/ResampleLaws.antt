@@ -1,55 +1,61 @@
 -- Laws of the resampler's definitions, for those who call it. Assumes nothing.
-use Prim.Native.Nat.{ℕ, _+_, _*_, _/_, _<_, _≤_}
-use mathlib.Core.Path.{_≡_, refl, ap, _∙_}
+use Prim.Native.Nat.{ℕ, zero, suc, _+_, _*_, _/_, _<_, _≤_}
+use mathlib.Core.Path.{_≡_, refl, ap, ap₂, _∙_}
 use mathlib.Core.Bool.{Bool, true, false}
 use mathlib.Core.List.{List, [], _++_}
-use native.Mathlib.Nat.{le-refl, mul-le-mul-left, mul-left-comm, add-mul, one-mul, div-lt-iff-lt-mul}
+use native.Mathlib.Nat.{le-refl, min-le-left, mul-le-mul-left, mul-left-comm, add-mul, one-mul, div-lt-iff-lt-mul}
 use native.Mathlib.Omega.{arith}
 use borrow.Author.Tests.{le-ltb}
 use lib.Dec.{eqb}
-use lib.ListN.{length, drop}
+use lib.ListN.{length, take, drop, length-take}
+use lib.Seq.{take-all, take-append-seam}
 use lib.Ieee.{Float}
 use Rattle.numeric.specs.If.{if_then_else_}
 use Rattle.numeric.specs.Counts.{outputLen}
 use Rattle.refusal.specs.Refusals.{first, given}
 use Rattle.resampling.specs.Flow.{ran, fed}
 use Rattle.resampling.proofs.FlowLaws.{fed-length}
-use Rattle.resampling.specs.Resample.{State, filterOf, maxOutputLen, tooMany, refusalOf, ranOver, laid, outcome, processed}
+use Rattle.resampling.specs.Resample.{State, state, filterOf, maxOutputLen, tooMany, refusalOf, ranOver, laid, ranInto, Outcome, outcome, processed}
 
 -- ---- nothing in, nothing out
 pub ran-none : (s : State) (room : ℕ) → ranOver s room [] ≡ ran [] (s .flow)
 unfolding ranOver fed
-ran-none s room = by (eqb (s .src) (s .dst))
+ran-none s room = by (eqb (s .src) (s .dst)) room
   where
-    by : (b : Bool) → (if b then ran [] (s .flow) else ran [] (s .flow)) ≡ ran [] (s .flow)
-    by true = refl
-    by false = refl
+    by : (b : Bool) (n : ℕ) → (if b then ran (take n []) (s .flow) else ran [] (s .flow)) ≡ ran [] (s .flow)
+    by true zero = refl
+    by true (suc n) = refl
+    by false n = refl
 
 -- ---- a call that no check refuses
-pub not-refused : (s : State) (n room : ℕ) → n ≤ 2048 → maxOutputLen (s .src) (s .dst) n ≤ room → refusalOf s n room ≡ 0
+pub not-refused : (s : State) (xs out : List Float) → length xs ≤ 2048 → maxOutputLen (s .src) (s .dst) (length xs) ≤ length out → refusalOf s xs out ≡ 0
 unfolding refusalOf tooMany first
-not-refused s n room h l = rw (le-ltb _ _ h, le-ltb _ _ l)
+not-refused s xs out h l = rw (le-ltb _ _ h, le-ltb _ _ l)
 
 pub accepted : (s : State) (xs out : List Float) → length xs ≤ 2048 → maxOutputLen (s .src) (s .dst) (length xs) ≤ length out
     → processed s xs out ≡ laid s out (ranOver s (length out) xs)
 unfolding processed
-accepted s xs out h l = rw (not-refused s (length xs) (length out) h l)
+accepted s xs out h l = rw (not-refused s xs out h l)
 
--- ---- "Equal rates copy": the samples themselves, and nothing moves
-pub equal-rates : (s : State) (room : ℕ) (xs : List Float) → eqb (s .src) (s .dst) ≡ true → ranOver s room xs ≡ ran xs (s .flow)
+-- ---- "Equal rates copy": the samples themselves, where there is room for them, and nothing moves
+equal-rates-run : (s : State) (room : ℕ) (xs : List Float) → eqb (s .src) (s .dst) ≡ true → length xs ≤ room → ranOver s room xs ≡ ran xs (s .flow)
 unfolding ranOver
-equal-rates s room xs e = rw e
+equal-rates-run s room xs e h = rw (e, take-all room xs h)
 
 pub equal-rates-len : (src dst n : ℕ) → eqb src dst ≡ true → maxOutputLen src dst n ≡ n
 unfolding maxOutputLen
 equal-rates-len src dst n e = rw e
+
+-- with the room that `max_output_len` gives
+pub equal-rates : (s : State) (xs : List Float) → eqb (s .src) (s .dst) ≡ true → ranOver s (maxOutputLen (s .src) (s .dst) (length xs)) xs ≡ ran xs (s .flow)
+equal-rates s xs e = rw (equal-rates-len (s .src) (s .dst) (length xs) e) (equal-rates-run s (length xs) xs e (le-refl _))
 
 -- a whole call of n samples into an output with room for them
 pub equal-rates-process : (s : State) (xs out : List Float) → eqb (s .src) (s .dst) ≡ true → length xs ≤ 2048 → length xs ≤ length out
     → processed s xs out ≡ outcome (given (length xs)) s (xs ++ drop (length xs) out)
 equal-rates-process s xs out e h l =
     let r = accepted s xs out h (rw (equal-rates-len (s .src) (s .dst) (length xs) e) l) in
-    r ∙ ap (laid s out) (equal-rates s (length out) xs e)
+    r ∙ ap (laid s out) (equal-rates-run s (length out) xs e l)
 
 -- ---- going down to 8,000, n samples make n + 2 at most
 pub output-few : (src n : ℕ) → 8000 ≤ src → maxOutputLen src 8000 n ≤ n + 2
@@ -69,15 +75,26 @@ output-few src n h = by (eqb src 8000)
     by true = omega arith
     by false = omega (arith, few)
 
--- what a call makes with the room that `max_output_len` gives
-pub ran-few : (s : State) (xs : List Float) → length (ranOver s (maxOutputLen (s .src) (s .dst) (length xs)) xs .out) ≤ maxOutputLen (s .src) (s .dst) (length xs)
-unfolding ranOver maxOutputLen
-ran-few s xs = by (eqb (s .src) (s .dst))
+-- what a call makes has room in the output
+pub ran-within : (s : State) (room : ℕ) (xs : List Float) → length (ranOver s room xs .out) ≤ room
+unfolding ranOver
+ran-within s room xs = by (eqb (s .src) (s .dst))
   where
-    n : ℕ
-    n = outputLen (length xs) (s .src) (s .dst)
+    by : (b : Bool) → length ((if b then ran (take room xs) (s .flow) else fed (filterOf (s .src) (s .dst)) room xs (s .flow)) .out) ≤ room
+    by true = simp length-take (min-le-left room (length xs))
+    by false = fed-length (filterOf (s .src) (s .dst)) room xs (s .flow)
 
-    by : (b : Bool)
-        → length ((if b then ran xs (s .flow) else fed (filterOf (s .src) (s .dst)) (if b then length xs else n) xs (s .flow)) .out) ≤ (if b then length xs else n)
-    by true = le-refl _
-    by false = fed-length (filterOf (s .src) (s .dst)) n xs (s .flow)
+-- with the room that `max_output_len` gives
+pub ran-few : (s : State) (xs : List Float) → length (ranOver s (maxOutputLen (s .src) (s .dst) (length xs)) xs .out) ≤ maxOutputLen (s .src) (s .dst) (length xs)
+ran-few s xs = ran-within s (maxOutputLen (s .src) (s .dst) (length xs)) xs
+
+-- ---- what `run` gave, part by part
+module _ (s s′ : State) (xs out out′ : List Float) (n : ℕ) (e : outcome (given n) s′ out′ ≡ ranInto s xs out) where
+  pub run-count : n ≡ length (ranOver s (length out) xs .out)
+  run-count = let a = ap (λ (z : Outcome). z .answer) e in cc
+
+  pub run-state : s′ ≡ state (s .src) (s .dst) (ranOver s (length out) xs .flow)
+  run-state = ap (λ (z : Outcome). z .state) e
+
+  pub run-samples : take n out′ ≡ ranOver s (length out) xs .out
+  run-samples = ap₂ take run-count (ap (λ (z : Outcome). z .out) e) ∙ take-append-seam (ranOver s (length out) xs .out) _

@@ -11,7 +11,7 @@ use lib.Seq.{sets, length-sets, drop-cons}
 use lib.Ieee.{Float, nan}
 use Rattle.numeric.specs.If.{if_then_else_}
 use Rattle.resampling.specs.Flow.{Filter, Flow, Ran, ran, wants, windowed, pushed, outWith, emitted, drained, fed}
-use Rattle.resampling.proofs.FlowLaws.{drained-length}
+use Rattle.resampling.proofs.FlowLaws.{drained-none, drained-length}
 use Rattle.resampling.specs.Filter.{filtered, newest}
 use Rattle.resampling.specs.FilterRep.{ringNext, historyOf, Filtered}
 use Rattle.resampling.proofs.FilterLaws.{drop-two}
@@ -30,15 +30,10 @@ pub run-nil : (s : Flow) (out : List Float) (at : ℕ) → into out at (ran [] s
 run-nil s out at = ap (λ (k : ℕ). run s out k) (add-zero at)
 
 module _ (f : Filter) (s : Flow) (out : List Float) (at : ℕ) where
-  drained-none : (room : ℕ) → wants s ≡ false → drained f room s ≡ ran [] s
-  unfolding drained
-  drained-none zero e = refl
-  drained-none (suc room) e = rw e
-
   -- nothing is left to drain
   pub drain-rest : wants s ≡ false → drainedInto f (run s out at) ≡ run s out at
   unfolding drainedInto
-  drain-rest e = rw (drained-none (length out - at) e) (run-nil s out at)
+  drain-rest e = rw (drained-none f (length out - at) s e) (run-nil s out at)
 
   -- no room is left
   pub drain-full : length out ≤ at → drainedInto f (run s out at) ≡ run s out at

@@ -8,6 +8,10 @@ use Rattle.numeric.specs.Sine.{sineOf, cosineOf}
 use Rattle.numeric.specs.Counts.{tapCount}
 use Rattle.numeric.specs.Fold.{fold, tabulate}
 
+-- as many taps at most: those at the highest rate
+abbrev pub mostTaps : ℕ
+mostTaps = 373
+
 -- 62/8000 s
 abbrev pub spanSeconds : Float
 spanSeconds = f64 0x404F_0000_0000_0000 ⊘ f64 0x40BF_4000_0000_0000

@@ -6,6 +6,7 @@ use lib.ListN.{length, getD, take}
 use lib.Dec.{leb, eqb}
 use lib.Ieee.{Float, nan}
 use Rattle.numeric.specs.If.{if_then_else_}
+use Rattle.resampling.specs.Design.{mostTaps}
 use Rattle.resampling.specs.Filter.{Window, filtered, newest, filteredAll, historyAfter}
 
 -- the place before idx in a ring of n, and the one after pos
@@ -30,15 +31,15 @@ windowOf w = record { y0 = getD w 0 nan; y1 = getD w 1 nan; y2 = getD w 2 nan; y
 -- a place of the ring, and the arrays' lengths
 pub record Placed (n pos : ℕ) (taps ring : List Float) : Type 0 where
   pub within : pos < n
-  pub high : n ≤ 373
-  pub taps-long : length taps ≡ 373
-  pub ring-long : length ring ≡ 373
+  pub high : n ≤ mostTaps
+  pub taps-long : length taps ≡ mostTaps
+  pub ring-long : length ring ≡ mostTaps
 
 -- a sample x went into the ring at pos and through the filter, which gave y
 pub record Filtered (n pos : ℕ) (taps : List Float) (x : Float) (ring ring′ : List Float) (y : Float) : Type 0 where
   pub history : historyOf n (ringNext n pos) ring′ ≡ newest x (historyOf n pos ring)
   pub value : y ≡ filtered (take n taps) (newest x (historyOf n pos ring))
-  pub long : length ring′ ≡ 373
+  pub long : length ring′ ≡ mostTaps
 
 -- samples xs went into the ring from pos on and through the filter, which gave ys; the next goes to pos′
 pub record AllFiltered (n pos pos′ : ℕ) (taps xs ring ring′ ys : List Float) : Type 0 where

@@ -1,5 +1,6 @@
 -- How the code holds what specs/Flow.antt speaks of, and a run that writes into a lent output. Assumes nothing.
 use Prim.Native.Nat.{ℕ, _+_, _-_}
+use mathlib.Core.Path.{_≡_}
 use mathlib.Core.Bool.{Bool}
 use mathlib.Core.List.{List, _++_}
 use lib.ListN.{length, take, drop}
@@ -45,3 +46,9 @@ withHistory h s = flow h (s .window) (s .place) (s .count)
 unfoldable pub throughFilter : List Float → List Float → Run → Run
 throughFilter taps h t =
     run (withHistory (historyAfter h (take (t .at) (t .out))) (t .flow)) (filteredAll taps h (take (t .at) (t .out)) ++ drop (t .at) (t .out)) (t .at)
+
+-- ---- equal rates
+-- xs stands at the front of the output, as far as there is room: count samples of it
+pub record Copied (xs out out′ : List Float) (count : ℕ) : Type 0 where
+  pub are : out′ ≡ take (length out) xs ++ drop count out
+  pub count-is : count ≡ length (take (length out) xs)

@@ -4,11 +4,12 @@ use mathlib.Core.List.{List, [], _∷_, _++_}
 use lib.ListN.{length, replicate}
 use lib.Ieee.{Float}
 use Rattle.numeric.specs.F64.{_⊘_, whole, zero64}
+use Rattle.resampling.specs.Design.{mostTaps}
 use Rattle.resampling.specs.Resample.{State, tapsOf}
 
--- 373 places, those that the rates do not use 0.0
+-- a place for each tap that there can be, those that the rates do not use 0.0
 abbrev pub filterPlaces : List Float → List Float
-filterPlaces xs = xs ++ replicate (373 - length xs) zero64
+filterPlaces xs = xs ++ replicate (mostTaps - length xs) zero64
 
 -- the taps; the filter's history, newest first
 abbrev pub tapNumbers : State → List Float

@@ -3,7 +3,7 @@
 use Prim.Native.Nat.{ℕ, zero, suc}
 use mathlib.Core.Bool.{Bool}
 use mathlib.Core.List.{List, [], _++_}
-use lib.ListN.{length, drop, replicate}
+use lib.ListN.{length, take, drop, replicate}
 use lib.Dec.{ltb, eqb}
 use lib.Ieee.{Float}
 use Rattle.numeric.specs.F64.{_⊘_, whole, zero64}
@@ -11,7 +11,7 @@ use Rattle.numeric.specs.If.{if_then_else_}
 use Rattle.numeric.specs.Counts.{outputLen}
 use Rattle.resampling.specs.Design.{lowpass}
 use Rattle.resampling.specs.Flow.{Filter, Flow, flow, Ran, ran, fed, zeroWindow}
-use Rattle.refusal.specs.Refusals.{Reply, given, refused, first, ratesRefused}
+use Rattle.refusal.specs.Refusals.{Reply, given, refused, first, ratesRefused, dspRate}
 
 -- ---- what a resampler is made of
 -- a resampler between two rates
@@ -54,7 +54,7 @@ made a s = record { answer = a; state = s }
 
 -- refused 1 it gives a state all the same, the one at equal rates of 8,000
 unfoldable pub newOf : ℕ → ℕ → Made
-newOf src dst = if ratesRefused src dst then made (refused 1) (fresh 8000 8000) else made (given tt) (fresh src dst)
+newOf src dst = if ratesRefused src dst then made (refused 1) (fresh dspRate dspRate) else made (given tt) (fresh src dst)
 
 -- `reset` gives the state as it was made
 abbrev pub resetOf : State → State
@@ -81,18 +81,18 @@ abbrev pub outcome : Reply ℕ → State → List Float → Outcome
 outcome a s o = record { answer = a; state = s; out = o }
 
 -- "3 more than 2,048 samples. 5 resampler output shorter than max_output_len"
-unfoldable pub refusalOf : State → ℕ → ℕ → ℕ
-refusalOf s n room = first (tooMany n) 3 (first (ltb room (maxOutputLen (s .src) (s .dst) n)) 5 0)
+unfoldable pub refusalOf : State → List Float → List Float → ℕ
+refusalOf s xs out = first (tooMany (length xs)) 3 (first (ltb (length out) (maxOutputLen (s .src) (s .dst) (length xs))) 5 0)
 
--- the samples that an accepted input makes, "Equal rates copy"
+-- the samples that an input makes, as far as there is room, "Equal rates copy"
 unfoldable pub ranOver : State → ℕ → List Float → Ran
-ranOver s room xs = if eqb (s .src) (s .dst) then ran xs (s .flow) else fed (filterOf (s .src) (s .dst)) room xs (s .flow)
+ranOver s room xs = if eqb (s .src) (s .dst) then ran (take room xs) (s .flow) else fed (filterOf (s .src) (s .dst)) room xs (s .flow)
 
 -- they stand at the front of the output, and what is behind them stays
 abbrev pub laid : State → List Float → Ran → Outcome
 laid s out r = outcome (given (length (r .out))) (state (s .src) (s .dst) (r .flow)) (r .out ++ drop (length (r .out)) out)
 
--- what an input that is not refused makes of state and output
+-- what `run` gives, which refuses nothing
 abbrev pub ranInto : State → List Float → List Float → Outcome
 ranInto s xs out = laid s out (ranOver s (length out) xs)
 
@@ -102,4 +102,4 @@ unlessRefused zero s out accepted = accepted
 unlessRefused (suc k) s out accepted = outcome (refused (suc k)) s out
 
 unfoldable pub processed : State → List Float → List Float → Outcome
-processed s xs out = unlessRefused (refusalOf s (length xs) (length out)) s out (ranInto s xs out)
+processed s xs out = unlessRefused (refusalOf s xs out) s out (ranInto s xs out)

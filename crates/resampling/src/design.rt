@@ -11,9 +11,10 @@ ghost use Prim.Native.Nat.{_≤_, _<_};
 ghost use lib.ListN.{length, take, replicate};
 ghost use Rattle.numeric.specs.F64.{zero64, _⊘_};
 ghost use Rattle.numeric.specs.Counts.{tapCount};
-ghost use Rattle.resampling.specs.Design.{cutoffOf, sinc, blackman, rawTap, rawTaps, total, lowpass};
+ghost use Rattle.refusal.specs.Refusals.{highestRate};
+ghost use Rattle.resampling.specs.Design.{mostTaps, cutoffOf, sinc, blackman, rawTap, rawTaps, total, lowpass};
 
-// The most taps: those at 48,000.
+// The most taps: those at the highest rate.
 pub const MAX_TAPS: usize = 373;
 
 const CUTOFF_HZ: f64 = 3600.0;
@@ -45,14 +46,14 @@ fn blackman_at(x: f64) -> f64
 }
 
 pub fn tap_count(fs: u32) -> usize
-    requires { ⌜ fs ≤ 48000 ⌝ }
-    ensures { λ r. ⌜ (r ≡ tapCount fs) × (0 < r) × (r ≤ 373) ⌝ }
+    requires { ⌜ fs ≤ highestRate ⌝ }
+    ensures { λ r. ⌜ (r ≡ tapCount fs) × (0 < r) × (r ≤ mostTaps) ⌝ }
 {
     nearest(62 * (fs as u64), 8000) as usize + 1
 }
 
 fn raw_tap(fs: u32, n: usize, i: usize) -> f64
-    requires { ⌜ (n ≡ tapCount fs) × (i < n) × (n ≤ 373) ⌝ }
+    requires { ⌜ (n ≡ tapCount fs) × (i < n) × (n ≤ mostTaps) ⌝ }
     ensures { λ r. ⌜ r ≡ rawTap fs i ⌝ }
 {
     let rate = fs as f64;
@@ -65,13 +66,13 @@ fn raw_tap(fs: u32, n: usize, i: usize) -> f64
 }
 
 pub fn zeros() -> [f64; MAX_TAPS]
-    ensures { λ r. ⌜ r ≡ replicate 373 zero64 ⌝ }
+    ensures { λ r. ⌜ r ≡ replicate mostTaps zero64 ⌝ }
 {
     [0.0f64; MAX_TAPS]
 }
 
 fn raw_taps(fs: u32, n: usize) -> [f64; MAX_TAPS]
-    requires { ⌜ (n ≡ tapCount fs) × (n ≤ 373) ⌝ }
+    requires { ⌜ (n ≡ tapCount fs) × (n ≤ mostTaps) ⌝ }
     ensures { λ r. ⌜ take n r ≡ rawTaps fs ⌝ }
 {
     let mut taps = zeros();
@@ -84,7 +85,7 @@ fn raw_taps(fs: u32, n: usize) -> [f64; MAX_TAPS]
 }
 
 fn sum_of(taps: &[f64; MAX_TAPS], n: usize) -> f64
-    requires { ⌜ (n ≤ 373) × (length (now taps) ≡ 373) ⌝ }
+    requires { ⌜ (n ≤ mostTaps) × (length (now taps) ≡ mostTaps) ⌝ }
     ensures { λ r. ⌜ r ≡ total (take n (now (taps .entry))) ⌝ }
 {
     let mut sum = 0.0;
@@ -97,7 +98,7 @@ fn sum_of(taps: &[f64; MAX_TAPS], n: usize) -> f64
 }
 
 fn normalise(taps: [f64; MAX_TAPS], n: usize, sum: f64) -> [f64; MAX_TAPS]
-    requires { ⌜ n ≤ 373 ⌝ }
+    requires { ⌜ n ≤ mostTaps ⌝ }
     ensures { λ r. ⌜ take n r ≡ map (λ x. x ⊘ sum) (take n taps) ⌝ }
 {
     let mut out = taps;
@@ -110,7 +111,7 @@ fn normalise(taps: [f64; MAX_TAPS], n: usize, sum: f64) -> [f64; MAX_TAPS]
 }
 
 pub fn design_lowpass(fs: u32, n: usize) -> [f64; MAX_TAPS]
-    requires { ⌜ (n ≡ tapCount fs) × (n ≤ 373) ⌝ }
+    requires { ⌜ (n ≡ tapCount fs) × (n ≤ mostTaps) ⌝ }
     ensures { λ r. ⌜ take n r ≡ lowpass fs ⌝ }
 {
     let raw = raw_taps(fs, n);

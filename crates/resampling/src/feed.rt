@@ -7,14 +7,15 @@ use crate::sample::push_ahead;
 use crate::sample::push_known;
 use crate::sample::push_one;
 use crate::sample::slide;
+use numeric::ends::smaller;
 ghost use mathlib.Core.Path.{_≡_};
 ghost use mathlib.Core.Bool.{true, false};
-ghost use mathlib.Core.List.{List, [], _∷_, _++_};
+ghost use mathlib.Core.List.{List, [], _∷_};
 ghost use Prim.Native.Nat.{ℕ, _≤_};
-ghost use lib.ListN.{length, take, drop};
+ghost use lib.ListN.{length, take};
 ghost use lib.Ieee.{Float};
 ghost use Rattle.resampling.specs.FilterRep.{historyOf, Placed};
-ghost use Rattle.resampling.specs.FlowRep.{flowOf, filterIn, run, drainedInto, fedInto, throughFilter};
+ghost use Rattle.resampling.specs.FlowRep.{flowOf, filterIn, run, drainedInto, fedInto, throughFilter, Copied};
 
 // How much of the output is written, and what moved.
 pub struct Drained {
@@ -199,14 +200,15 @@ pub fn feed(
     feed_rising(taps, hist, n, step, m, input, output)
 }
 
-// Copies the input to the front of the output.
-pub fn copy(input: &[f64], output: &mut [f64])
-    requires { ⌜ length (now input) ≤ length (now output) ⌝ }
-    ensures { λ _. ⌜ now (output .exit) ≡ now (input .entry) ++ drop (length (now (input .entry))) (now (output .entry)) ⌝ }
+// Copies the input to the front of the output, as far as there is room, and says how much that is.
+pub fn copy(input: &[f64], output: &mut [f64]) -> usize
+    ensures { λ r. ⌜ Copied (now (input .entry)) (now (output .entry)) (now (output .exit)) r ⌝ }
 {
+    let n = smaller(output.len(), input.len());
     let mut i = 0;
-    while i < input.len() {
+    while i < n {
         output[i] = input[i];
         i += 1;
     }
+    n
 }

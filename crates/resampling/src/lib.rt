@@ -15,4 +15,5 @@ mod numbers;
 mod resample;
 mod sample;
 
+pub use design::MAX_TAPS;
 pub use resample::Resampler;

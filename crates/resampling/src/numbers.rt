@@ -7,11 +7,12 @@ ghost use mathlib.Core.List.{_++_};
 ghost use Prim.Native.Nat.{_-_, _≤_, _<_};
 ghost use lib.ListN.{take, replicate};
 ghost use Rattle.numeric.specs.F64.{zero64};
+ghost use Rattle.resampling.specs.Design.{mostTaps};
 ghost use Rattle.resampling.specs.FilterRep.{historyOf};
 
 // The samples of a ring of n, newest first, where the next one goes to pos.
 pub fn newest_first(ring: [f64; MAX_TAPS], n: usize, pos: usize) -> [f64; MAX_TAPS]
-    requires { ⌜ (n ≤ 373) × (0 < n → pos < n) ⌝ }
+    requires { ⌜ (n ≤ mostTaps) × (0 < n → pos < n) ⌝ }
     ensures { λ r. ⌜ take n r ≡ historyOf n pos ring ⌝ }
 {
     let mut a = zeros();
@@ -27,8 +28,8 @@ pub fn newest_first(ring: [f64; MAX_TAPS], n: usize, pos: usize) -> [f64; MAX_TA
 
 // The first n, and 0.0 behind them.
 pub fn cleared(xs: [f64; MAX_TAPS], n: usize) -> [f64; MAX_TAPS]
-    requires { ⌜ n ≤ 373 ⌝ }
-    ensures { λ r. ⌜ r ≡ take n xs ++ replicate (373 - n) zero64 ⌝ }
+    requires { ⌜ n ≤ mostTaps ⌝ }
+    ensures { λ r. ⌜ r ≡ take n xs ++ replicate (mostTaps - n) zero64 ⌝ }
 {
     let mut a = xs;
     let mut i = n;

@@ -12,16 +12,16 @@ use crate::sample::Moving;
 use numeric::counts::nearest;
 use refusal::Acceptance;
 use refusal::Counted;
+use refusal::DSP_RATE;
 use refusal::Refusal;
 use refusal::rates_ok;
 ghost use mathlib.Core.Path.{_≡_};
-ghost use mathlib.Core.Bool.{false};
 ghost use Prim.Native.Nat.{_≤_};
 ghost use lib.Dec.{eqb};
 ghost use lib.ListN.{length};
-ghost use Rattle.refusal.specs.Refusals.{acceptanceOf, countOf};
+ghost use Rattle.refusal.specs.Refusals.{acceptanceOf, countOf, highestRate};
 ghost use Rattle.resampling.specs.Resample.{equalRates, faster, fresh, newOf, made, resetOf, maxOutputLen, lenOf, processed, ranInto, tapsOf};
-ghost use Rattle.resampling.specs.ResampleRep.{TapsFor, InRange, stateOf, outcomeOf, Sound};
+ghost use Rattle.resampling.specs.ResampleRep.{TapsFor, InRange, stateOf, producedOf, outcomeOf, Sound};
 ghost use Rattle.resampling.specs.Numbers.{tapNumbers, historyNumbers, windowNumbers};
 
 pub struct Resampler {
@@ -42,15 +42,21 @@ pub struct Created {
     pub state: Resampler,
 }
 
-// How many samples were written, or the refusal; and the state.
+// How many samples were written, and the state.
+pub struct Produced {
+    pub count: usize,
+    pub state: Resampler,
+}
+
+// The same, or the refusal.
 pub struct Processed {
     pub answer: Counted,
     pub state: Resampler,
 }
 
 fn faster_of(a: u32, b: u32) -> u32
-    requires { ⌜ (a ≤ 48000) × (b ≤ 48000) ⌝ }
-    ensures { λ r. ⌜ (r ≡ faster a b) × (r ≤ 48000) ⌝ }
+    requires { ⌜ (a ≤ highestRate) × (b ≤ highestRate) ⌝ }
+    ensures { λ r. ⌜ (r ≡ faster a b) × (r ≤ highestRate) ⌝ }
 {
     if a > b { a } else { b }
 }
@@ -62,7 +68,7 @@ struct Taps {
 }
 
 fn taps_for(identity: bool, fs: u32) -> Taps
-    requires { ⌜ fs ≤ 48000 ⌝ }
+    requires { ⌜ fs ≤ highestRate ⌝ }
     ensures { λ r. ⌜ TapsFor identity fs (r .n) (r .taps) ⌝ }
 {
     if identity {
@@ -125,7 +131,7 @@ impl Resampler {
                 state,
             };
         }
-        let state = fresh_at(8000, 8000);
+        let state = fresh_at(DSP_RATE, DSP_RATE);
         Created {
             answer: Acceptance::Refused(Refusal::Rate),
             state,
@@ -183,22 +189,24 @@ impl Resampler {
                 state: self,
             };
         }
-        if self.identity {
-            copy(input, output);
-            return Processed {
-                answer: Counted::Count(count),
-                state: self,
-            };
+        let p = self.run(input, output);
+        let state = p.state;
+        Processed {
+            answer: Counted::Count(p.count),
+            state,
         }
-        self.run(input, output)
     }
 
-    // The same between rates that differ, where no check refused it.
-    fn run(self, input: &[f64], output: &mut [f64]) -> Processed
-        requires { ⌜ Sound self × (self .identity ≡ false) ⌝ }
-        ensures { λ r. ⌜ outcomeOf r (now (output .exit)) ≡ ranInto (stateOf self) (now (input .entry)) (now (output .entry)) ⌝ }
+    // The same with no check, for callers that know their lengths: an output that is too short is filled as far as it goes.
+    pub fn run(self, input: &[f64], output: &mut [f64]) -> Produced
+        requires { ⌜ Sound self ⌝ }
+        ensures { λ r. ⌜ producedOf r (now (output .exit)) ≡ ranInto (stateOf self) (now (input .entry)) (now (output .entry)) ⌝ }
         ensures { λ r. ⌜ Sound (r .state) ⌝ }
     {
+        if self.identity {
+            let count = copy(input, output);
+            return Produced { count, state: self };
+        }
         let taps = self.taps;
         let mut hist = self.fir_hist;
         let m = self.moving;
@@ -224,10 +232,7 @@ impl Resampler {
             fir_hist: hist,
             moving,
         };
-        Processed {
-            answer: Counted::Count(d.at),
-            state,
-        }
+        Produced { count: d.at, state }
     }
 
     // Whether the rates are equal, so that samples are copied.

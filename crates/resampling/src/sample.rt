@@ -10,6 +10,7 @@ ghost use mathlib.Core.List.{List};
 ghost use Prim.Native.Nat.{ℕ, _≤_, _<_};
 ghost use lib.ListN.{length, take};
 ghost use lib.Ieee.{Float};
+ghost use Rattle.resampling.specs.Design.{mostTaps};
 ghost use Rattle.resampling.specs.Filter.{filtered, newest};
 ghost use Rattle.resampling.specs.FilterRep.{historyOf, Placed};
 ghost use Rattle.resampling.specs.Flow.{windowed, pushed, outWith, emitted};
@@ -89,9 +90,9 @@ pub fn push_ahead(
 
 // One input sample where the rate goes down, whose filter output y is known.
 pub fn push_known(hist: &mut [f64; MAX_TAPS], n: usize, m: Moving, x: f64, y: f64) -> Moving
-    requires { ⌜ (m .«fir_pos» < n) × (n ≤ 373) × (length (now hist) ≡ 373) ⌝ }
+    requires { ⌜ (m .«fir_pos» < n) × (n ≤ mostTaps) × (length (now hist) ≡ mostTaps) ⌝ }
     ensures { λ r. ⌜ flowOf n (now (hist .exit)) r ≡ windowed (flowOf n (now (hist .entry)) m) (newest x (historyOf n (m .«fir_pos») (now (hist .entry)))) y ⌝ }
-    ensures { λ r. ⌜ (r .«fir_pos» < n) × (length (now (hist .exit)) ≡ 373) ⌝ }
+    ensures { λ r. ⌜ (r .«fir_pos» < n) × (length (now (hist .exit)) ≡ mostTaps) ⌝ }
 {
     let pos = m.fir_pos;
     hist[pos] = x;

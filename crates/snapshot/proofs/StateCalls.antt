@@ -15,6 +15,8 @@ use Rattle.modem.specs.Rx.{Receiver}
 use Rattle.modem.specs.RxRep.{receiverOf}
 use Rattle.demodulation.specs.declared.correlator.Rings.{Rings}
 use Rattle.demodulation.specs.declared.demod.Core.{Core}
+use Rattle.demodulation.specs.Demod as plain
+use Rattle.demodulation.specs.DemodRep.{demodulatorOf}
 use Rattle.demodulation.specs.declared.demod.Demodulator.{Demodulator}
 use Rattle.modem.specs.declared.rx.Rx.{Rx}
 use Rattle.numeric.proofs.Parts.{part-next, part-left, put-front, put-behind}
@@ -65,9 +67,9 @@ resampler-put s taps history window l1 l2 l3 l4 t-is h-is w-is t-long h-long p q
     })
 
 -- ---- the rings
-pub rings-put : (d : Demodulator) (k : Core) (g : Rings) (place l1 l2 l3 l4 l5 l6 : List Float) → k ≡ d .core → g ≡ d .rings → place ≡ placeNumbers k
+pub rings-put : (d : Demodulator) (k : Core) (g : Rings) (place l1 l2 l3 l4 l5 l6 : List Float) → k ≡ d .core → g ≡ d .rings → place ≡ placeNumbers (k .corr)
     → Put 753 place l1 l2 → PutMany 755 27 (g .«mark_i») l2 l3 → PutMany 782 27 (g .«mark_q») l3 l4 → PutMany 809 27 (g .«space_i») l4 l5
-    → PutMany 836 27 (g .«space_q») l5 l6 → PutMany 753 110 (ringNumbers d) l1 l6
+    → PutMany 836 27 (g .«space_q») l5 l6 → PutMany 753 110 (ringNumbers (demodulatorOf d)) l1 l6
 rings-put d k g place l1 l2 l3 l4 l5 l6 k-is g-is is p a b c e =
     let n : length place ≡ 2 = rw is in
     let ce = put-put 809 836 (g .«space_i») (g .«space_q») l4 l5 l6 (omega (arith, c .many)) (c .put) (e .put) in
@@ -81,17 +83,20 @@ rings-put d k g place l1 l2 l3 l4 l5 l6 k-is g-is is p a b c e =
     }))
 
 -- ---- the whole
+abbrev toneOf : plain.Demodulator → List Float
+toneOf d = toneNumbers (d .corr) (d .timing) (d .deframer) (d .carrier)
+
 laid-out : (r : Receiver) (l1 l2 l3 l4 l5 l6 l7 : List Float)
     → PutMany 0 753 (resamplerNumbers (r .demod .resampler)) l1 l2 → PutMany 753 110 (ringNumbers (r .demod .inner)) l2 l3
-    → Put 863 (toneNumbers (r .demod .inner .core)) l3 l4 → Put 880 (markNumbers (r .demod .inner .core .dominance)) l4 l5
-    → Put 895 (ownNumbers (r .demod .inner .core .dominance)) l5 l6 → Put 901 (lastNumbers r) l6 l7 → l7 ≡ stateNumbers r ++ drop stateLength l1
+    → Put 863 (toneOf (r .demod .inner)) l3 l4 → Put 880 (markNumbers (r .demod .inner .dominance)) l4 l5
+    → Put 895 (ownNumbers (r .demod .inner .dominance)) l5 l6 → Put 901 (lastNumbers r) l6 l7 → l7 ≡ stateNumbers r ++ drop stateLength l1
 unfolding stateNumbers
 laid-out r l1 l2 l3 l4 l5 l6 l7 a b t m o l =
     let A = resamplerNumbers (r .demod .resampler) in
     let B = ringNumbers (r .demod .inner) in
-    let T = toneNumbers (r .demod .inner .core) in
-    let M = markNumbers (r .demod .inner .core .dominance) in
-    let O = ownNumbers (r .demod .inner .core .dominance) in
+    let T = toneOf (r .demod .inner) in
+    let M = markNumbers (r .demod .inner .dominance) in
+    let O = ownNumbers (r .demod .inner .dominance) in
     let L = lastNumbers r in
     let ol = put-put 895 901 O L l5 l6 l7 refl o l in
     let mol = put-put 880 895 M (O ++ L) l4 l5 l7 refl m ol in
@@ -101,16 +106,15 @@ laid-out r l1 l2 l3 l4 l5 l6 l7 a b t m o l =
     let many : length (A ++ (B ++ (T ++ (M ++ (O ++ L))))) ≡ 909 = rw (length-append A, length-append B) (omega (arith, a .many, b .many)) in
     all .is ∙ rw (many, zero-add)
 
-pub state-put : (r : Receiver) (d : Demodulator) (k : Core) (tone mark own last l1 l2 l3 l4 l5 l6 l7 : List Float) → d ≡ r .demod .inner → k ≡ d .core
-    → tone ≡ toneNumbers k → mark ≡ markNumbers (k .dominance) → own ≡ ownNumbers (k .dominance) → last ≡ lastNumbers r
-    → PutMany 0 753 (resamplerNumbers (r .demod .resampler)) l1 l2 → PutMany 753 110 (ringNumbers d) l2 l3
+pub state-put : (r : Receiver) (d : Demodulator) (k : Core) (tone mark own last l1 l2 l3 l4 l5 l6 l7 : List Float) → demodulatorOf d ≡ r .demod .inner → k ≡ d .core
+    → tone ≡ toneNumbers (k .corr) (k .timing) (k .deframer) (k .carrier) → mark ≡ markNumbers (k .dominance) → own ≡ ownNumbers (k .dominance) → last ≡ lastNumbers r
+    → PutMany 0 753 (resamplerNumbers (r .demod .resampler)) l1 l2 → PutMany 753 110 (ringNumbers (demodulatorOf d)) l2 l3
     → Put 863 tone l3 l4 → Put 880 mark l4 l5 → Put 895 own l5 l6 → Put 901 last l6 l7 → l7 ≡ stateNumbers r ++ drop stateLength l1
 state-put r d k tone mark own last l1 l2 l3 l4 l5 l6 l7 d-is k-is t-is m-is o-is l-is a b t m o l =
-    let e : k ≡ r .demod .inner .core = k-is ∙ ap (λ (x : Demodulator). x .core) d-is in
-    laid-out r l1 l2 l3 l4 l5 l6 l7 a (subst (λ (x : Demodulator). PutMany 753 110 (ringNumbers x) l2 l3) d-is b)
-    (subst (λ (x : List Float). Put 863 x l3 l4) (t-is ∙ ap (λ (x : Core). toneNumbers x) e) t)
-    (subst (λ (x : List Float). Put 880 x l4 l5) (m-is ∙ ap (λ (x : Core). markNumbers (x .dominance)) e) m)
-    (subst (λ (x : List Float). Put 895 x l5 l6) (o-is ∙ ap (λ (x : Core). ownNumbers (x .dominance)) e) o)
+    laid-out r l1 l2 l3 l4 l5 l6 l7 a (subst (λ (x : plain.Demodulator). PutMany 753 110 (ringNumbers x) l2 l3) d-is b)
+    (subst (λ (x : List Float). Put 863 x l3 l4) (t-is ∙ ap (λ (x : Core). toneNumbers (x .corr) (x .timing) (x .deframer) (x .carrier)) k-is ∙ ap toneOf d-is) t)
+    (subst (λ (x : List Float). Put 880 x l4 l5) (m-is ∙ ap (λ (x : Core). markNumbers (x .dominance)) k-is ∙ ap (λ (x : plain.Demodulator). markNumbers (x .dominance)) d-is) m)
+    (subst (λ (x : List Float). Put 895 x l5 l6) (o-is ∙ ap (λ (x : Core). ownNumbers (x .dominance)) k-is ∙ ap (λ (x : plain.Demodulator). ownNumbers (x .dominance)) d-is) o)
     (subst (λ (x : List Float). Put 901 x l6 l7) l-is l)
 
 -- ---- the script

@@ -13,8 +13,11 @@ use Rattle.resampling.specs.Resample.{State}
 use Rattle.modem.specs.Queue.{mostBytes, mostEvents}
 use Rattle.modem.specs.Rx.{Receiver, freshReceiver}
 use Rattle.demodulation.specs.declared.carrier.ToneDominance.{ToneDominance}
-use Rattle.demodulation.specs.declared.demod.Core.{Core}
-use Rattle.demodulation.specs.declared.demod.Demodulator.{Demodulator}
+use Rattle.demodulation.specs.declared.carrier.CarrierDetector.{CarrierDetector}
+use Rattle.demodulation.specs.declared.correlator.Correlator.{Correlator}
+use Rattle.demodulation.specs.declared.timing.Timing.{Timing}
+use Rattle.demodulation.specs.Demod.{Demodulator}
+use Rattle.framing.specs.declared.frame.Deframer.{Deframer}
 use Rattle.demodulation.specs.declared.goertzel.Goertzel.{Goertzel}
 use Rattle.calls.specs.Receive.{called, toWrite, toRead, toTake, callsIn}
 use Rattle.calls.specs.Roles.{roleOf}
@@ -28,19 +31,19 @@ abbrev pub resamplerNumbers : State → List Float
 resamplerNumbers s = tapNumbers s ++ (historyNumbers s ++ windowNumbers s)
 
 -- the correlator's place, whether its rings are filled, and the four rings in place order
-abbrev pub placeNumbers : Core → List Float
-placeNumbers c = whole (c .corr .pos) ∷ truth (c .corr .filled) ∷ []
+abbrev pub placeNumbers : Correlator → List Float
+placeNumbers c = whole (c .pos) ∷ truth (c .filled) ∷ []
 
 abbrev pub ringNumbers : Demodulator → List Float
-ringNumbers d = placeNumbers (d .core) ++ (d .rings .«mark_i» ++ (d .rings .«mark_q» ++ (d .rings .«space_i» ++ d .rings .«space_q»)))
+ringNumbers d = placeNumbers (d .corr) ++ (d .rings .«mark_i» ++ (d .rings .«mark_q» ++ (d .rings .«space_i» ++ d .rings .«space_q»)))
 
 -- phases, timing, deframer and detector
-abbrev pub toneNumbers : Core → List Float
-toneNumbers c =
-    c .corr .«phase_m» ∷ c .corr .«phase_s» ∷ c .corr .«inc_m» ∷ c .corr .«inc_s»
-    ∷ c .timing .«sym_phase» ∷ c .timing .«sym_inc» ∷ c .timing .«last_sym» ∷ c .timing .«mid_sym» ∷ truth (c .timing .«have_mid»)
-    ∷ truth (c .deframer .«in_frame») ∷ whole (c .deframer .«bit_count») ∷ whole (c .deframer .acc) ∷ whole (c .deframer .errors)
-    ∷ c .carrier .level ∷ c .carrier .floor ∷ truth (c .carrier .detected) ∷ whole (c .carrier .holdoff) ∷ []
+abbrev pub toneNumbers : Correlator → Timing → Deframer → CarrierDetector → List Float
+toneNumbers c t d l =
+    c .«phase_m» ∷ c .«phase_s» ∷ c .«inc_m» ∷ c .«inc_s»
+    ∷ t .«sym_phase» ∷ t .«sym_inc» ∷ t .«last_sym» ∷ t .«mid_sym» ∷ truth (t .«have_mid»)
+    ∷ truth (d .«in_frame») ∷ whole (d .«bit_count») ∷ whole (d .acc) ∷ whole (d .errors)
+    ∷ l .level ∷ l .floor ∷ truth (l .detected) ∷ whole (l .holdoff) ∷ []
 
 -- the i-th probe of an array: its coefficient and two states
 abbrev noProbe : Goertzel
@@ -63,17 +66,17 @@ blockNumber n = if ltb n 256 then whole n else zero64
 -- the rest of the dominance, the latch, how many bytes and events wait, and how many samples were accepted
 abbrev pub lastNumbers : Receiver → List Float
 lastNumbers r =
-    let c = r .demod .inner .core in
+    let c = r .demod .inner in
     c .dominance .wideband ∷ blockNumber (c .dominance .count) ∷ truth (c .«gate_open») ∷ truth (c .latch .qualified) ∷ truth (c .latch .«qualified_ever»)
     ∷ whole (length (r .waiting)) ∷ whole (length (r .logged)) ∷ whole (r .accepted) ∷ []
 
 -- all of it: 909 numbers
 unfoldable pub stateNumbers : Receiver → List Float
 stateNumbers r =
-    let c = r .demod .inner .core in
+    let c = r .demod .inner in
     resamplerNumbers (r .demod .resampler)
     ++ (ringNumbers (r .demod .inner)
-    ++ (toneNumbers c
+    ++ (toneNumbers (c .corr) (c .timing) (c .deframer) (c .carrier)
     ++ (markNumbers (c .dominance)
     ++ (ownNumbers (c .dominance)
     ++ lastNumbers r))))

@@ -7,11 +7,12 @@ use demodulation::Demodulator;
 use modem::Rx;
 use numeric::ends::part_end;
 use refusal::Acceptance;
+use resampling::MAX_TAPS;
 ghost use mathlib.Core.Path.{_≡_};
 ghost use mathlib.Core.List.{_++_};
 ghost use Prim.Native.Nat.{_+_, _≤_, _/_, _<_};
 ghost use lib.ListN.{length, drop, replicate};
-ghost use Rattle.demodulation.specs.Demod.{Tuned};
+ghost use Rattle.demodulation.specs.DemodRep.{demodulatorOf, DemodSound};
 ghost use Rattle.modem.specs.RxRep.{receiverOf, RxSound};
 ghost use Rattle.calls.specs.Receive.{callsIn};
 ghost use Rattle.snapshot.specs.ReceiverState.{truth, placeNumbers, toneNumbers, markNumbers, ownNumbers, blockNumber, lastNumbers, resamplerNumbers, ringNumbers, stateNumbers, stateLength, receiverAfter, shown, stateRun};
@@ -99,14 +100,14 @@ fn one_or_zero(b: bool) -> f64
 
 fn place_numbers(core: Core) -> [f64; 2]
     requires { ⌜ core .corr .pos < 27 ⌝ }
-    ensures { λ r. ⌜ r ≡ placeNumbers core ⌝ }
+    ensures { λ r. ⌜ r ≡ placeNumbers (core .corr) ⌝ }
 {
     let c = core.corr;
     [c.pos as f64, one_or_zero(c.filled)]
 }
 
 fn tone_numbers(core: Core) -> [f64; 17]
-    ensures { λ r. ⌜ r ≡ toneNumbers core ⌝ }
+    ensures { λ r. ⌜ r ≡ toneNumbers (core .corr) (core .timing) (core .deframer) (core .carrier) ⌝ }
 {
     let c = core.corr;
     let t = core.timing;
@@ -240,14 +241,14 @@ fn put_resampler(rx: Rx, out: &mut [f64])
     let history = r.history_numbers();
     let window = r.window_numbers();
     put(out, 0, &taps);
-    put(out, 373, &history);
+    put(out, MAX_TAPS, &history);
     put(out, 746, &window);
 }
 
 // The correlator's place and rings, 110 numbers behind those.
 fn put_rings(d: Demodulator, out: &mut [f64])
-    requires { ⌜ Tuned d × (stateLength ≤ length (now out)) ⌝ }
-    ensures { λ _. ⌜ PutMany 753 110 (ringNumbers d) (now (out .entry)) (now (out .exit)) ⌝ }
+    requires { ⌜ DemodSound d × (stateLength ≤ length (now out)) ⌝ }
+    ensures { λ _. ⌜ PutMany 753 110 (ringNumbers (demodulatorOf d)) (now (out .entry)) (now (out .exit)) ⌝ }
 {
     let core = d.core();
     let rings = d.rings();

@@ -1,12 +1,11 @@
--- What bytes do to a decoder, claimed of the lines that they end: the reading, the counts, and each line at its place. Assumes nothing.
+-- What is heard does to a decoder, claimed of the lines that are ended: the reading, the counts, and each line at its place. Assumes nothing.
 use Prim.Native.Nat.{ℕ, zero, suc, _+_, _-_, _≤_, _<_}
 use mathlib.Core.Path.{_≡_, refl, sym, ap, ap₂, _∙_, subst}
 use mathlib.Core.Logic.{_↔_, _⊎_, inl, inr}
-use mathlib.Core.Bool.{Bool, true, false, not}
+use mathlib.Core.Bool.{Bool, true, false}
 use mathlib.Core.List.{List, [], _∷_, _++_, append-nil, append-assoc}
 use lib.Dec.{ltb, eqb}
-use lib.IntN.{ℤ}
-use lib.ListN.{length, getD, set, replicate, length-set, length-append}
+use lib.ListN.{length, getD, set, take, replicate, length-set, length-append}
 use lib.Seq.{getD-at, getD-set-same, getD-set-other}
 use native.Mathlib.Omega.{arith}
 use native.Mathlib.Nat.{min-eq-left}
@@ -14,86 +13,107 @@ use borrow.Author.Tests.{ltb-true, ltb-false, eqb-true, eqb-false, le-leb, ne-eq
 use Rattle.numeric.specs.If.{if_then_else_}
 use Rattle.refusal.specs.Refusals.{first}
 use Rattle.hexadecimal.specs.Hex.{unhex, hexLine, total}
-use Rattle.tide.specs.Frame.{levelOf, signed, waterOf, readerOf, Intact, Writer, Rules, lineBy}
-use Rattle.tide.specs.Judge.{Shown, none, shows, Verdict, ofFields, ofFrame, ofLine, later, settle, judge}
-use Rattle.tide.specs.Decoder.{Line, Decoder, freshDecoder, IsAnswer, place, bump, verdict, ended, longer, grown, addByte, addBytes, linesIn, verdictsIn, shownOn, answersOn, Along, times, Tallied, Good, goodOf, goods, Below, AtMost, Best, SinceFresh}
+use Rattle.tide.specs.Frame.{readerOf, Intact, Writer, Rules, lineBy}
+use Rattle.tide.specs.Judge.{Reading, readingOf, Shown, none, shows, Verdict, damageOf, ofFields, judgedOf, ofLine, later, settle, judge}
+use Rattle.tide.specs.Decoder.{Line, Decoder, freshDecoder, IsAnswer, place, bump, verdict, ended, grown, Move, ends, grows, stays, moveOf, moved, lineAt, verdictAt, took, tookAll, linesIn, verdictsIn, laidIn, shownOn, answersOn, Along, times, Tallied, goodOf, goods, Below, AtMost, Best, SinceFresh}
 use Rattle.tide.specs.DecoderRep.{mostCount, held, holding}
+use Rattle.happenings.specs.Happening.{byteOf, bytesIn, typed}
+use Rattle.happenings.specs.declared.happening.Happening.{Happening}
+use Rattle.happenings.specs.declared.happening.Happening.the-variants.{Byte, Lost, Up, Down}
 use Rattle.tide.proofs.JudgeLaws.{judge-newer, fields-alike, some-writer}
 
--- ---- bytes after bytes
-pub addBytes-append : (d : Decoder) (xs ys : List ℕ) → addBytes d (xs ++ ys) ≡ addBytes (addBytes d xs) ys
-unfolding addBytes
-addBytes-append d [] ys = refl
-addBytes-append d (x ∷ xs) ys = addBytes-append (addByte d x) xs ys
+-- ---- what is heard after what was heard
+pub tookAll-append : (d : Decoder) (xs ys : List Happening) → tookAll d (xs ++ ys) ≡ tookAll (tookAll d xs) ys
+unfolding tookAll
+tookAll-append d [] ys = refl
+tookAll-append d (x ∷ xs) ys = tookAll-append (took d x) xs ys
 
-pub linesIn-append : (d : Decoder) (xs ys : List ℕ) → linesIn d (xs ++ ys) ≡ linesIn d xs ++ linesIn (addBytes d xs) ys
-unfolding addBytes linesIn
+pub linesIn-append : (d : Decoder) (xs ys : List Happening) → linesIn d (xs ++ ys) ≡ linesIn d xs ++ linesIn (tookAll d xs) ys
+unfolding tookAll linesIn
 linesIn-append d [] ys = refl
-linesIn-append d (x ∷ xs) ys = rw (linesIn-append (addByte d x) xs ys, append-assoc) refl
+linesIn-append d (x ∷ xs) ys = rw (linesIn-append (took d x) xs ys, append-assoc) refl
 
-pub verdictsIn-append : (d : Decoder) (xs ys : List ℕ) → verdictsIn d (xs ++ ys) ≡ verdictsIn d xs ++ verdictsIn (addBytes d xs) ys
-unfolding addBytes verdictsIn
+pub verdictsIn-append : (d : Decoder) (xs ys : List Happening) → verdictsIn d (xs ++ ys) ≡ verdictsIn d xs ++ verdictsIn (tookAll d xs) ys
+unfolding tookAll verdictsIn
 verdictsIn-append d [] ys = refl
-verdictsIn-append d (x ∷ xs) ys = rw (verdictsIn-append (addByte d x) xs ys, append-assoc) refl
+verdictsIn-append d (x ∷ xs) ys = rw (verdictsIn-append (took d x) xs ys, append-assoc) refl
+
+-- ---- what is heard, as text: the bytes alone move a decoder
+pub as-text : (d : Decoder) (hs : List Happening)
+    → (tookAll d hs ≡ tookAll d (typed (bytesIn hs))) × (linesIn d hs ≡ linesIn d (typed (bytesIn hs))) × (verdictsIn d hs ≡ verdictsIn d (typed (bytesIn hs)))
+unfolding bytesIn typed tookAll linesIn verdictsIn took moveOf moved
+as-text d [] = (refl, refl, refl)
+as-text d (Byte c ∷ hs) =
+    let r = as-text (took d (Byte c)) hs in
+    (r .0, ap (λ (ls : List Line). lineAt d (moveOf (Byte c)) ++ ls) (r .1), ap (λ (vs : List ℕ). verdictAt d (moveOf (Byte c)) ++ vs) (r .2))
+as-text d (Lost ∷ hs) = as-text d hs
+as-text d (Up ∷ hs) = as-text d hs
+as-text d (Down ∷ hs) = as-text d hs
+
+-- with no byte among what is heard nothing moves
+pub no-byte : (d : Decoder) (hs : List Happening) → bytesIn hs ≡ [] → (tookAll d hs ≡ d) × (linesIn d hs ≡ []) × (verdictsIn d hs ≡ [])
+unfolding typed tookAll linesIn verdictsIn
+no-byte d hs e = rw e at (as-text d hs)
 
 -- ---- the station stays
-station-by : (t : Bool) (d : Decoder) (c : ℕ) → (if t then ended d else grown d c) .station ≡ d .station
-unfolding ended grown
-station-by true d c = refl
-station-by false d c = refl
+station-by : (m : Move) (d : Decoder) → moved d m .station ≡ d .station
+unfolding moved ended grown
+station-by ends d = refl
+station-by (grows c) d = refl
+station-by stays d = refl
 
-pub station-stays : (d : Decoder) (cs : List ℕ) → addBytes d cs .station ≡ d .station
-unfolding addBytes addByte
+pub station-stays : (d : Decoder) (hs : List Happening) → tookAll d hs .station ≡ d .station
+unfolding tookAll took
 station-stays d [] = refl
-station-stays d (c ∷ cs) = station-stays (addByte d c) cs ∙ station-by (eqb c 10) d c
+station-stays d (h ∷ hs) = station-stays (took d h) hs ∙ station-by (moveOf h) d
 
 -- ---- the reading is the best of the good lines
-below-all : (w₀ w : ℕ) (bs cs : List Good) (g : Good) → w₀ < w → g .water ≡ w₀ → Below w₀ bs → AtMost w₀ cs → Below w (bs ++ g ∷ cs)
+below-all : (w₀ w : ℕ) (bs cs : List Reading) (g : Reading) → w₀ < w → g .water ≡ w₀ → Below w₀ bs → AtMost w₀ cs → Below w (bs ++ g ∷ cs)
 below-all w₀ w [] [] g h e p q = (omega arith, tt)
 below-all w₀ w [] (c ∷ cs) g h e p q =
     let r = below-all w₀ w [] cs g h e p (q .1) in
     (r .0, (let a = q .0 in omega arith, r .1))
 below-all w₀ w (b ∷ bs) cs g h e p q = (let a = p .0 in omega arith, below-all w₀ w bs cs g h e (p .1) q)
 
-at-most-more : (w : ℕ) (cs : List Good) (g : Good) → g .water ≤ w → AtMost w cs → AtMost w (cs ++ g ∷ [])
+at-most-more : (w : ℕ) (cs : List Reading) (g : Reading) → g .water ≤ w → AtMost w cs → AtMost w (cs ++ g ∷ [])
 at-most-more w [] g h q = (h, tt)
 at-most-more w (c ∷ cs) g h q = (q .0, at-most-more w cs g h (q .1))
 
-best-later : (t : Bool) (gs : List Good) (w₀ : ℕ) (v₀ : ℤ) (w : ℕ) (v : ℤ) → ltb w₀ w ≡ t → Best gs (shows w₀ v₀)
-    → Best (gs ++ record { water = w; level = v } ∷ []) (if t then shows w v else shows w₀ v₀)
-best-later true gs w₀ v₀ w v e b =
-    (gs, [], refl, rw (b .2) (below-all w₀ w (b .0) (b .1) _ (ltb-true w₀ w e) refl (b .3) (b .4)), tt)
-best-later false gs w₀ v₀ w v e b =
-    (b .0, b .1 ++ record { water = w; level = v } ∷ [], rw (b .2, append-assoc) refl, b .3, at-most-more w₀ (b .1) _ (ltb-false w₀ w e) (b .4))
+best-later : (t : Bool) (gs : List Reading) (r g : Reading) → ltb (r .water) (g .water) ≡ t → Best gs (shows r)
+    → Best (gs ++ g ∷ []) (if t then shows g else shows r)
+best-later true gs r g e b =
+    (gs, [], refl, rw (b .2) (below-all (r .water) (g .water) (b .0) (b .1) r (ltb-true (r .water) (g .water) e) refl (b .3) (b .4)), tt)
+best-later false gs r g e b =
+    (b .0, b .1 ++ g ∷ [], rw (b .2, append-assoc) refl, b .3, at-most-more (r .water) (b .1) g (ltb-false (r .water) (g .water) e) (b .4))
 
 reading-by : (t : Bool) (a b : Verdict) → (if t then a else b) .reading ≡ (if t then a .reading else b .reading)
 reading-by true a b = refl
 reading-by false a b = refl
 
 -- a good line more
-best-good : (gs : List Good) (r : Shown) (w : ℕ) (v : ℤ) → Best gs r
-    → Best (gs ++ record { water = w; level = v } ∷ []) (settle 0 r w v .reading)
+best-good : (gs : List Reading) (s : Shown) (g : Reading) → Best gs s → Best (gs ++ g ∷ []) (settle 0 s g .reading)
 unfolding settle later
-best-good gs none w v b = ([], [], rw b refl, tt, tt)
-best-good gs (shows w₀ v₀) w v b = rw (reading-by (ltb w₀ w) _ _) (best-later (ltb w₀ w) gs w₀ v₀ w v refl b)
+best-good gs none g b = ([], [], rw b refl, tt, tt)
+best-good gs (shows r) g b = rw (reading-by (ltb (r .water) (g .water)) _ _) (best-later (ltb (r .water) (g .water)) gs r g refl b)
 
 -- a line more, good or not
-best-line : (t : Bool) (n : ℕ) (gs : List Good) (r : Shown) (w : ℕ) (v : ℤ) → eqb n 0 ≡ t → Best gs r
-    → Best (gs ++ (if t then record { water = w; level = v } ∷ [] else [])) (settle n r w v .reading)
+best-line : (t : Bool) (n : ℕ) (gs : List Reading) (s : Shown) (g : Reading) → eqb n 0 ≡ t → Best gs s
+    → Best (gs ++ (if t then g ∷ [] else [])) (settle n s g .reading)
 unfolding settle
-best-line true n gs r w v e b = rw e (best-good gs r w v b)
-best-line false n gs r w v e b = rw (e, append-nil) b
+best-line true n gs s g e b = rw e (best-good gs s g b)
+best-line false n gs s g e b = rw (e, append-nil) b
 
-best-judge : (mine : ℕ) (gs : List Good) (r : Shown) (l : Line) → Best gs r
+best-judge : (mine : ℕ) (gs : List Reading) (r : Shown) (l : Line) → Best gs r
     → Best (gs ++ goodOf mine l) (judge mine r (l .chars) (l .more) .reading)
 unfolding goodOf judge
-best-judge mine gs r l b = best-line _ _ gs r _ _ refl b
+best-judge mine gs r l b = best-line _ _ gs r _ refl b
 
-best-byte : (t : Bool) (d : Decoder) (c : ℕ) (gs : List Good) → Best gs (d .reading)
-    → Best (gs ++ goods (d .station) (if t then d .line ∷ [] else [])) ((if t then ended d else grown d c) .reading)
-unfolding goods ended grown verdict
-best-byte true d c gs h = rw append-nil (best-judge (d .station) gs (d .reading) (d .line) h)
-best-byte false d c gs h = rw append-nil h
+best-move : (m : Move) (d : Decoder) (gs : List Reading) → Best gs (d .reading)
+    → Best (gs ++ goods (d .station) (lineAt d m)) (moved d m .reading)
+unfolding goods moved ended grown verdict
+best-move ends d gs h = rw append-nil (best-judge (d .station) gs (d .reading) (d .line) h)
+best-move (grows c) d gs h = rw append-nil h
+best-move stays d gs h = rw append-nil h
 
 pub goods-append : (mine : ℕ) (k l : List Line) → goods mine (k ++ l) ≡ goods mine k ++ goods mine l
 unfolding goods
@@ -101,23 +121,23 @@ goods-append mine [] l = refl
 goods-append mine (x ∷ k) l = rw (goods-append mine k l, append-assoc) refl
 
 -- of a decoder that shows the best of gs
-pub best-bytes : (cs : List ℕ) (d : Decoder) (mine : ℕ) (gs : List Good) → d .station ≡ mine → Best gs (d .reading)
-    → Best (gs ++ goods mine (linesIn d cs)) (addBytes d cs .reading)
-unfolding linesIn addBytes addByte
-best-bytes [] d mine gs e h = unfold goods in rw append-nil h
-best-bytes (c ∷ cs) d mine gs e h =
-    let f : addByte d c .station ≡ mine = station-by (eqb c 10) d c ∙ e in
-    let k : Best (gs ++ goods mine (if eqb c 10 then d .line ∷ [] else [])) (addByte d c .reading) = rw (← e) (best-byte (eqb c 10) d c gs h) in
-    rw (goods-append, ← append-assoc) (best-bytes cs (addByte d c) mine _ f k)
+pub best-heard : (hs : List Happening) (d : Decoder) (mine : ℕ) (gs : List Reading) → d .station ≡ mine → Best gs (d .reading)
+    → Best (gs ++ goods mine (linesIn d hs)) (tookAll d hs .reading)
+unfolding linesIn tookAll took
+best-heard [] d mine gs e h = unfold goods in rw append-nil h
+best-heard (x ∷ hs) d mine gs e h =
+    let f : took d x .station ≡ mine = station-by (moveOf x) d ∙ e in
+    let k : Best (gs ++ goods mine (lineAt d (moveOf x))) (took d x .reading) = rw (← e) (best-move (moveOf x) d gs h) in
+    rw (goods-append, ← append-assoc) (best-heard hs (took d x) mine _ f k)
 
-cons-not : (bs cs : List Good) (g : Good) → bs ++ g ∷ cs ≡ [] → _≡_ {A = ℕ} 0 1
+cons-not : (bs cs : List Reading) (g : Reading) → bs ++ g ∷ cs ≡ [] → _≡_ {A = ℕ} 0 1
 cons-not [] cs g e = cc
 cons-not (b ∷ bs) cs g e = cc
 
 -- none stands exactly where there was no good line
-pub best-none : (gs : List Good) (r : Shown) → Best gs r → (r ≡ none) ↔ (gs ≡ [])
+pub best-none : (gs : List Reading) (r : Shown) → Best gs r → (r ≡ none) ↔ (gs ≡ [])
 best-none gs none b = (λ _. b, λ _. refl)
-best-none gs (shows w v) b =
+best-none gs (shows r) b =
     (λ e. let z : _≡_ {A = ℕ} 0 1 = cc in absurd (let y = z in omega arith), λ e. absurd (let z = cons-not (b .0) (b .1) _ (sym (b .2) ∙ e) in omega arith))
 
 -- ---- the answers and the reading are those of the lines, judged one after the other
@@ -142,18 +162,19 @@ along-more mine r q p k l us vs a b =
       left = rw (shown-append mine r k l, ← a .left) (b .left);
     }
 
-along-byte : (t : Bool) (d : Decoder) (c : ℕ)
-    → Along (d .station) (d .reading) (if t then d .line ∷ [] else []) (if t then verdict d .answer ∷ [] else []) ((if t then ended d else grown d c) .reading)
-unfolding ended grown verdict shownOn answersOn
-along-byte true d c = record { said = refl; left = refl }
-along-byte false d c = along-none _ _
+along-move : (m : Move) (d : Decoder) → Along (d .station) (d .reading) (lineAt d m) (verdictAt d m) (moved d m .reading)
+unfolding moved ended grown verdict shownOn answersOn
+along-move ends d = record { said = refl; left = refl }
+along-move (grows c) d = along-none _ _
+along-move stays d = along-none _ _
 
-pub along-bytes : (cs : List ℕ) (d : Decoder) → Along (d .station) (d .reading) (linesIn d cs) (verdictsIn d cs) (addBytes d cs .reading)
-unfolding linesIn verdictsIn addBytes addByte
-along-bytes [] d = along-none _ _
-along-bytes (c ∷ cs) d =
-    let k = station-by (eqb c 10) d c in
-    along-more (d .station) _ _ _ _ _ _ _ (along-byte (eqb c 10) d c) (rw k at (along-bytes cs (addByte d c)))
+pub along-heard : (hs : List Happening) (d : Decoder) → Along (d .station) (d .reading) (linesIn d hs) (verdictsIn d hs) (tookAll d hs .reading)
+unfolding linesIn verdictsIn tookAll took
+along-heard [] d = along-none _ _
+along-heard (h ∷ hs) d =
+    let k = station-by (moveOf h) d in
+    along-more (d .station) _ _ _ _ _ _ _ (along-move (moveOf h) d)
+    (subst (λ (n : ℕ). Along n (took d h .reading) (linesIn (took d h) hs) (verdictsIn (took d h) hs) (tookAll (took d h) hs .reading)) k (along-heard hs (took d h)))
 
 length-answers : (mine : ℕ) (r : Shown) (ls : List Line) → length (answersOn mine r ls) ≡ length ls
 unfolding answersOn
@@ -179,19 +200,31 @@ choice false a b p q = q
 between : (n : ℕ) → 11 ≤ n → n ≤ 20 → IsAnswer n
 between n p q = inr (inl (p, q))
 
-of-line : (mine : ℕ) (l : List ℕ) (m : Bool) → IsAnswer (ofLine mine l m)
-unfolding ofLine ofFrame ofFields
-of-line mine l m =
+damage-answers : (l : List ℕ) (m : Bool) → IsAnswer (damageOf l m)
+unfolding damageOf
+damage-answers l m =
     choice _ 11 _ (between 11 (omega arith) (omega arith))
     (choice _ 12 _ (between 12 (omega arith) (omega arith))
     (choice _ 13 _ (between 13 (omega arith) (omega arith))
     (choice _ 14 _ (between 14 (omega arith) (omega arith))
     (choice _ 15 _ (between 15 (omega arith) (omega arith))
-    (choice _ 16 _ (between 16 (omega arith) (omega arith))
-    (choice _ 17 _ (between 17 (omega arith) (omega arith))
+    (choice _ 16 0 (between 16 (omega arith) (omega arith)) (inl refl))))))
+
+judged-answers : (mine : ℕ) (f : List ℕ) → IsAnswer (judgedOf mine f)
+unfolding judgedOf ofFields
+judged-answers mine f =
+    choice _ 17 _ (between 17 (omega arith) (omega arith))
     (choice _ 18 _ (between 18 (omega arith) (omega arith))
     (choice _ 19 _ (between 19 (omega arith) (omega arith))
-    (choice _ 20 0 (between 20 (omega arith) (omega arith)) (inl refl))))))))))
+    (choice _ 20 0 (between 20 (omega arith) (omega arith)) (inl refl))))
+
+either : (t : Bool) (a b : ℕ) → IsAnswer a → IsAnswer b → IsAnswer (if t then a else b)
+either true a b p q = p
+either false a b p q = q
+
+of-line : (mine : ℕ) (l : List ℕ) (m : Bool) → IsAnswer (ofLine mine l m)
+unfolding ofLine
+of-line mine l m = either (eqb (damageOf l m) 0) _ _ (judged-answers mine (unhex l)) (damage-answers l m)
 
 settle-by : (t u : Bool) (n : ℕ) (r s : Shown) → IsAnswer n
     → IsAnswer ((if_then_else_ {A = Verdict} t (if u then record { answer = 0; reading = s } else record { answer = 34; reading = r }) (record { answer = n; reading = r })) .answer)
@@ -202,7 +235,7 @@ settle-by false u n r s h = h
 pub judge-answers : (mine : ℕ) (r : Shown) (l : List ℕ) (m : Bool) → IsAnswer (judge mine r l m .answer)
 unfolding judge settle
 judge-answers mine r l m =
-    settle-by (eqb (ofLine mine l m) 0) (later r (waterOf (unhex l))) (ofLine mine l m) r (shows (waterOf (unhex l)) (signed (levelOf (unhex l)))) (of-line mine l m)
+    settle-by (eqb (ofLine mine l m) 0) (later r (readingOf (unhex l))) (ofLine mine l m) r (shows (readingOf (unhex l))) (of-line mine l m)
 
 -- its place
 abbrev Placed : ℕ → ℕ → Type 0
@@ -291,37 +324,50 @@ tallied-one cs a l q =
       whole = omega (arith, bump-total cs a l q);
     }
 
-tallied-byte : (t : Bool) (d : Decoder) (c : ℕ) → length (d .counts) ≡ 12
-    → Tallied (d .counts) ((if t then ended d else grown d c) .counts) (if t then verdict d .answer ∷ [] else [])
-unfolding ended grown
-tallied-byte true d c l = tallied-one (d .counts) _ l (unfold verdict in judge-answers _ _ _ _)
-tallied-byte false d c l = tallied-none (d .counts) l
+tallied-move : (m : Move) (d : Decoder) → length (d .counts) ≡ 12 → Tallied (d .counts) (moved d m .counts) (verdictAt d m)
+unfolding moved ended grown
+tallied-move ends d l = tallied-one (d .counts) _ l (unfold verdict in judge-answers _ _ _ _)
+tallied-move (grows c) d l = tallied-none (d .counts) l
+tallied-move stays d l = tallied-none (d .counts) l
 
-pub tallied-bytes : (cs : List ℕ) (d : Decoder) → length (d .counts) ≡ 12 → Tallied (d .counts) (addBytes d cs .counts) (verdictsIn d cs)
-unfolding addBytes addByte verdictsIn
-tallied-bytes [] d l = tallied-none (d .counts) l
-tallied-bytes (c ∷ cs) d l =
-    let h = tallied-byte (eqb c 10) d c l in
-    tallied-more _ _ _ _ _ h (tallied-bytes cs (addByte d c) (h .long))
+pub tallied-heard : (hs : List Happening) (d : Decoder) → length (d .counts) ≡ 12 → Tallied (d .counts) (tookAll d hs .counts) (verdictsIn d hs)
+unfolding tookAll took verdictsIn
+tallied-heard [] d l = tallied-none (d .counts) l
+tallied-heard (h ∷ hs) d l =
+    let k = tallied-move (moveOf h) d l in
+    tallied-more _ _ _ _ _ k (tallied-heard hs (took d h) (k .long))
 
 -- ---- as many lines as answers, and no more than bytes
-lines-by : (t : Bool) (l : Line) (a : ℕ) → (length (if t then l ∷ [] else []) ≡ length (if t then a ∷ [] else [])) × (length (if t then a ∷ [] else []) ≤ 1)
-lines-by true l a = (refl, omega arith)
-lines-by false l a = (refl, omega arith)
+lines-by : (m : Move) (d : Decoder) → length (lineAt d m) ≡ length (verdictAt d m)
+lines-by ends d = refl
+lines-by (grows c) d = refl
+lines-by stays d = refl
 
-pub lines-verdicts : (cs : List ℕ) (d : Decoder) → (length (linesIn d cs) ≡ length (verdictsIn d cs)) × (length (verdictsIn d cs) ≤ length cs)
-unfolding linesIn verdictsIn
+few-line : (d : Decoder) (t : Bool) (c : ℕ) → length (verdictAt d (if t then ends else grows c)) ≤ 1
+few-line d true c = omega arith
+few-line d false c = omega arith
+
+few-by : (d : Decoder) (h : Happening) → length (verdictAt d (moveOf h)) ≤ length (byteOf h)
+unfolding moveOf
+few-by d (Byte c) = few-line d (eqb c 10) c
+few-by d Lost = omega arith
+few-by d Up = omega arith
+few-by d Down = omega arith
+
+pub lines-verdicts : (hs : List Happening) (d : Decoder) → (length (linesIn d hs) ≡ length (verdictsIn d hs)) × (length (verdictsIn d hs) ≤ length (bytesIn hs))
+unfolding linesIn verdictsIn bytesIn
 lines-verdicts [] d = (refl, omega arith)
-lines-verdicts (c ∷ cs) d =
-    let k = lines-by (eqb c 10) (d .line) (verdict d .answer) in
-    let r = lines-verdicts cs (addByte d c) in
-    let p = length-append (if eqb c 10 then d .line ∷ [] else []) (linesIn (addByte d c) cs) in
-    let q = length-append (if eqb c 10 then verdict d .answer ∷ [] else []) (verdictsIn (addByte d c) cs) in
-    (omega (arith, p, q, k .0, r .0), omega (arith, q, k .1, r .1))
+lines-verdicts (h ∷ hs) d =
+    let m = moveOf h in
+    let r = lines-verdicts hs (took d h) in
+    let p = length-append (lineAt d m) (linesIn (took d h) hs) in
+    let q = length-append (verdictAt d m) (verdictsIn (took d h) hs) in
+    let b = length-append (byteOf h) (bytesIn hs) in
+    (omega (arith, p, q, lines-by m d, r .0), omega (arith, q, b, few-by d h, r .1))
 
 -- the counts together grow by no more than the bytes
-pub total-bytes : (cs : List ℕ) (d : Decoder) → length (d .counts) ≡ 12 → total (addBytes d cs .counts) ≤ total (d .counts) + length cs
-total-bytes cs d l = omega (arith, tallied-bytes cs d l .whole, lines-verdicts cs d .1)
+pub total-heard : (hs : List Happening) (d : Decoder) → length (d .counts) ≡ 12 → total (tookAll d hs .counts) ≤ total (d .counts) + length (bytesIn hs)
+total-heard hs d l = omega (arith, tallied-heard hs d l .whole, lines-verdicts hs d .1)
 
 -- ---- counts that hold: while together they are no more than one count can say, none has to
 held-same : (cs : List ℕ) → total cs ≤ mostCount → held cs ≡ cs
@@ -336,8 +382,8 @@ pub holds : (d : Decoder) → total (d .counts) ≤ mostCount → holding d ≡ 
 unfolding holding
 holds d h = rw (held-same (d .counts) h) refl
 
-pub holds-bytes : (cs : List ℕ) (d : Decoder) → length (d .counts) ≡ 12 → total (d .counts) + length cs ≤ mostCount → holding (addBytes d cs) ≡ addBytes d cs
-holds-bytes cs d l h = holds (addBytes d cs) (omega (arith, total-bytes cs d l))
+pub holds-heard : (hs : List Happening) (d : Decoder) → length (d .counts) ≡ 12 → total (d .counts) + length (bytesIn hs) ≤ mostCount → holding (tookAll d hs) ≡ tookAll d hs
+holds-heard hs d l h = holds (tookAll d hs) (omega (arith, total-heard hs d l))
 
 zeros : (n k : ℕ) → _≡_ {A = ℕ} (getD (replicate n 0) k 0) 0
 zeros zero k = refl
@@ -348,33 +394,33 @@ zero-total : total (replicate 12 0) ≡ 0
 unfolding total
 zero-total = refl
 
-fresh-along : (station : ℕ) (bs : List ℕ)
-    → Along station none (linesIn (freshDecoder station) bs) (verdictsIn (freshDecoder station) bs) (addBytes (freshDecoder station) bs .reading)
+fresh-along : (station : ℕ) (hs : List Happening)
+    → Along station none (linesIn (freshDecoder station) hs) (verdictsIn (freshDecoder station) hs) (tookAll (freshDecoder station) hs .reading)
 unfolding freshDecoder
-fresh-along station bs = along-bytes bs (freshDecoder station)
+fresh-along station hs = along-heard hs (freshDecoder station)
 
-fresh-best : (station : ℕ) (bs : List ℕ) → Best (goods station (linesIn (freshDecoder station) bs)) (addBytes (freshDecoder station) bs .reading)
+fresh-best : (station : ℕ) (hs : List Happening) → Best (goods station (linesIn (freshDecoder station) hs)) (tookAll (freshDecoder station) hs .reading)
 unfolding freshDecoder
-fresh-best station bs = best-bytes bs (freshDecoder station) station [] refl refl
+fresh-best station hs = best-heard hs (freshDecoder station) station [] refl refl
 
-fresh-tallied : (station : ℕ) (bs : List ℕ) → Tallied (replicate 12 0) (addBytes (freshDecoder station) bs .counts) (verdictsIn (freshDecoder station) bs)
+fresh-tallied : (station : ℕ) (hs : List Happening) → Tallied (replicate 12 0) (tookAll (freshDecoder station) hs .counts) (verdictsIn (freshDecoder station) hs)
 unfolding freshDecoder
-fresh-tallied station bs = tallied-bytes bs (freshDecoder station) refl
+fresh-tallied station hs = tallied-heard hs (freshDecoder station) refl
 
-pub since-fresh : (station : ℕ) (bs : List ℕ) → SinceFresh station bs
-since-fresh station bs =
-    let b = fresh-best station bs in
-    let t = fresh-tallied station bs in
-    let a = fresh-along station bs in
+pub since-fresh : (station : ℕ) (hs : List Happening) → SinceFresh station hs
+since-fresh station hs =
+    let b = fresh-best station hs in
+    let t = fresh-tallied station hs in
+    let a = fresh-along station hs in
     record {
       reading = b;
       empty = best-none _ _ b;
       counts = λ n h. omega (arith, t .each n h, zeros 12 (place n));
-      judged = omega (arith, lines-verdicts bs (freshDecoder station) .0, t .whole, zero-total);
+      judged = omega (arith, lines-verdicts hs (freshDecoder station) .0, t .whole, zero-total);
       verdicts = a .said;
       shown = a .left;
       each = λ ls rs l e. rw (a .said, e) (at-place station none ls rs l);
-      writers = λ ls rs l e p. some-writer station (l .chars) (l .more) p;
+      writers = λ ls rs l e p. some-writer (l .chars) (l .more) p;
     }
 
 -- ---- a line judged at a decoder
@@ -393,3 +439,33 @@ pub newer : (d : Decoder) (f : List ℕ) → Intact f → 1 < readerOf f → d .
 unfolding ended verdict
 newer d f i h e =
     (rw (e, judge-newer (d .station) (d .reading) f i h) refl, rw (e, judge-newer (d .station) (d .reading) f i h) refl)
+
+-- ---- answers laid in a slice
+take-none : (n : ℕ) → take {A = ℕ} n [] ≡ []
+take-none zero = refl
+take-none (suc n) = refl
+
+-- one more stands behind those before it, where there is room
+pub laid-more : (vs : List ℕ) (a : ℕ) (out : List ℕ) → laidIn (vs ++ a ∷ []) out ≡ set (laidIn vs out) (length vs) a
+unfolding laidIn
+laid-more [] a [] = refl
+laid-more [] a (o ∷ out) = rw (take-none (length out)) refl
+laid-more (v ∷ vs) a [] = refl
+laid-more (v ∷ vs) a (o ∷ out) = ap (λ (xs : List ℕ). v ∷ xs) (laid-more vs a out)
+
+pub laid-none : (out : List ℕ) → laidIn [] out ≡ out
+unfolding laidIn
+laid-none out = rw (take-none (length out)) refl
+
+pub laid-length : (vs out : List ℕ) → length (laidIn vs out) ≡ length out
+unfolding laidIn
+laid-length [] out = rw (take-none (length out)) refl
+laid-length (v ∷ vs) [] = refl
+laid-length (v ∷ vs) (o ∷ out) = ap suc (laid-length vs out)
+
+-- where there is room for all, all stand at the front
+pub laid-front : (vs out : List ℕ) → length vs ≤ length out → take (length vs) (laidIn vs out) ≡ vs
+unfolding laidIn
+laid-front [] out h = refl
+laid-front (v ∷ vs) [] h = absurd (omega arith)
+laid-front (v ∷ vs) (o ∷ out) h = ap (λ (xs : List ℕ). v ∷ xs) (laid-front vs out (omega arith))

@@ -1,19 +1,17 @@
--- Counts that hold at the most: the lines and the answers are those of a decoder whose counts do not, and it does not matter after which bytes they
+-- Counts that hold at the most: the lines and the answers are those of a decoder whose counts do not, and it does not matter after what they
 -- hold. Assumes nothing.
 use Prim.Native.Nat.{ℕ, zero, suc, _+_, _≤_, min}
 use mathlib.Core.Path.{_≡_, refl, sym, ap, ap₂, _∙_}
 use mathlib.Core.Logic.{_⊎_, inl, inr}
-use mathlib.Core.Bool.{Bool, true, false}
 use mathlib.Core.List.{List, [], _∷_, _++_}
-use lib.Dec.{eqb}
 use lib.ListN.{length, getD, set}
 use native.Mathlib.Decide.{decLe}
 use native.Mathlib.Nat.{min-eq-left, min-eq-right}
 use native.Mathlib.Omega.{arith}
-use Rattle.numeric.specs.If.{if_then_else_}
 use Rattle.hexadecimal.specs.Hex.{total}
 use Rattle.tide.specs.Judge.{Verdict}
-use Rattle.tide.specs.Decoder.{Line, Decoder, place, bump, verdict, ended, grown, addByte, addBytes, linesIn, verdictsIn}
+use Rattle.tide.specs.Decoder.{Line, Decoder, place, bump, verdict, ended, grown, Move, ends, grows, stays, moveOf, moved, lineAt, verdictAt, took, tookAll, linesIn, verdictsIn}
+use Rattle.happenings.specs.declared.happening.Happening.{Happening}
 use Rattle.tide.specs.DecoderRep.{decoderOf, mostCount, held, holding, Sound}
 use Rattle.tide.specs.declared.decoder.Decoder as code
 
@@ -75,32 +73,46 @@ held-bump : (cs : List ℕ) (a : ℕ) → held (bump (held cs) a) ≡ held (bump
 unfolding bump
 held-bump cs a = held-more cs (place a)
 
--- ---- bytes to a decoder whose counts hold
+-- ---- what is heard by a decoder whose counts hold
 same-verdict : (d : Decoder) → verdict (holding d) ≡ verdict d
 unfolding verdict holding
 same-verdict d = refl
 
-hold-byte : (t : Bool) (d : Decoder) (c : ℕ) → holding (if t then ended (holding d) else grown (holding d) c) ≡ holding (if t then ended d else grown d c)
-unfolding holding ended grown
-hold-byte true d c = rw (same-verdict d, held-bump (d .counts) (verdict d .answer)) refl
-hold-byte false d c = rw (held-held (d .counts)) refl
+hold-move : (m : Move) (d : Decoder) → holding (moved (holding d) m) ≡ holding (moved d m)
+unfolding holding moved ended grown
+hold-move ends d = rw (same-verdict d, held-bump (d .counts) (verdict d .answer)) refl
+hold-move (grows c) d = rw (held-held (d .counts)) refl
+hold-move stays d = rw (held-held (d .counts)) refl
 
 alike-line : (c d : Decoder) → holding c ≡ holding d → c .line ≡ d .line
 unfolding holding
 alike-line c d e = ap (λ (x : Decoder). x .line) e
 
--- the rest of the bytes does not see which of two decoders it is that hold alike
-alike-bytes : (cs : List ℕ) (c d : Decoder) → holding c ≡ holding d
-    → (holding (addBytes c cs) ≡ holding (addBytes d cs)) × (linesIn c cs ≡ linesIn d cs) × (verdictsIn c cs ≡ verdictsIn d cs)
-unfolding addBytes linesIn verdictsIn addByte
-alike-bytes [] c d e = (e, refl, refl)
-alike-bytes (b ∷ cs) c d e =
-    let r = alike-bytes cs (addByte c b) (addByte d b) (sym (hold-byte (eqb b 10) c b) ∙ (rw e (hold-byte (eqb b 10) d b))) in
-    let l : c .line ≡ d .line = alike-line c d e in
-    let v : verdict c ≡ verdict d = sym (same-verdict c) ∙ (rw e (same-verdict d)) in (
+alike-verdict : (c d : Decoder) → holding c ≡ holding d → verdict c ≡ verdict d
+alike-verdict c d e = sym (same-verdict c) ∙ (rw e (same-verdict d))
+
+lines-alike : (m : Move) (c d : Decoder) → c .line ≡ d .line → lineAt c m ≡ lineAt d m
+lines-alike ends c d e = ap (λ (x : Line). x ∷ []) e
+lines-alike (grows k) c d e = refl
+lines-alike stays c d e = refl
+
+verdicts-alike : (m : Move) (c d : Decoder) → verdict c ≡ verdict d → verdictAt c m ≡ verdictAt d m
+verdicts-alike ends c d e = ap (λ (x : Verdict). x .answer ∷ []) e
+verdicts-alike (grows k) c d e = refl
+verdicts-alike stays c d e = refl
+
+-- the rest of what is heard does not see which of two decoders it is that hold alike
+alike-heard : (hs : List Happening) (c d : Decoder) → holding c ≡ holding d
+    → (holding (tookAll c hs) ≡ holding (tookAll d hs)) × (linesIn c hs ≡ linesIn d hs) × (verdictsIn c hs ≡ verdictsIn d hs)
+unfolding tookAll linesIn verdictsIn took
+alike-heard [] c d e = (e, refl, refl)
+alike-heard (h ∷ hs) c d e =
+    let m = moveOf h in
+    let f : holding (took c h) ≡ holding (took d h) = sym (hold-move m c) ∙ ap (λ (x : Decoder). holding (moved x m)) e ∙ hold-move m d in
+    let r = alike-heard hs (took c h) (took d h) f in (
       r .0,
-      ap₂ (λ (xs ys : List Line). xs ++ ys) (ap (λ (x : Line). if eqb b 10 then x ∷ [] else []) l) (r .1),
-      ap₂ (λ (xs ys : List ℕ). xs ++ ys) (ap (λ (x : Verdict). if eqb b 10 then x .answer ∷ [] else []) v) (r .2),
+      ap₂ (λ (xs ys : List Line). xs ++ ys) (lines-alike m c d (alike-line c d e)) (r .1),
+      ap₂ (λ (xs ys : List ℕ). xs ++ ys) (verdicts-alike m c d (alike-verdict c d e)) (r .2),
     )
 
 -- a decoder of the code's holds as it is
@@ -108,16 +120,16 @@ pub unheld : (d : code.Decoder) → Sound d → holding (decoderOf d) ≡ decode
 unfolding holding
 unheld d s = rw (s .within) refl
 
-module _ (cs : List ℕ) (d : Decoder) where
+module _ (hs : List Happening) (d : Decoder) where
   twice : holding (holding d) ≡ holding d
   unfolding holding
   twice = rw (held-held (d .counts)) refl
 
-  pub holding-bytes : holding (addBytes (holding d) cs) ≡ holding (addBytes d cs)
-  holding-bytes = alike-bytes cs (holding d) d twice .0
+  pub holding-heard : holding (tookAll (holding d) hs) ≡ holding (tookAll d hs)
+  holding-heard = alike-heard hs (holding d) d twice .0
 
-  pub holding-lines : linesIn (holding d) cs ≡ linesIn d cs
-  holding-lines = alike-bytes cs (holding d) d twice .1
+  pub holding-lines : linesIn (holding d) hs ≡ linesIn d hs
+  holding-lines = alike-heard hs (holding d) d twice .1
 
-  pub holding-verdicts : verdictsIn (holding d) cs ≡ verdictsIn d cs
-  holding-verdicts = alike-bytes cs (holding d) d twice .2
+  pub holding-verdicts : verdictsIn (holding d) hs ≡ verdictsIn d hs
+  holding-verdicts = alike-heard hs (holding d) d twice .2

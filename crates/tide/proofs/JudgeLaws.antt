@@ -2,21 +2,22 @@
 -- readers gets 17. And a line that passes 11 to 16 is one that some writer writes. Assumes nothing.
 use Prim.Native.Nat.{ℕ, zero, suc, _-_, _%_, _≤_, _<_}
 use mathlib.Core.Path.{_≡_, refl, sym, _∙_}
-use mathlib.Core.Logic.{inl, inr}
+use mathlib.Core.Logic.{_⊎_, _↔_, inl, inr}
 use mathlib.Core.Bool.{Bool, true, false, not, _&&_, _||_}
 use mathlib.Core.List.{List}
 use lib.Dec.{ltb, eqb}
 use lib.ListN.{length, getD}
 use native.Mathlib.Omega.{arith}
 use borrow.Author.Tests.{ltb-false, eqb-true, eqb-false, lt-ltb, le-ltb, eq-eqb, ne-eqb}
+use Rattle.numeric.specs.If.{if_then_else_}
 use Rattle.refusal.specs.Refusals.{first}
 use Rattle.hexadecimal.specs.Hex.{allHex, unhex, hexLine, total}
 use Rattle.tide.specs.Frame.{versionOf, readerOf, saidLength, stationOf, stampOf, ageOf, levelOf, signed, waterOf, Intact, Writer, Rules, bitsOf, frameOf, lineBy}
-use Rattle.tide.specs.Judge.{Shown, ofFields, ofFrame, ofLine, Passes, Passed, settle, judge}
+use Rattle.tide.specs.Judge.{damageOf, Passes, Passed, ofFields, judgedOf, ofLine, readingOf, Shown, settle, judge}
 use Rattle.hexadecimal.proofs.HexLaws.{unhex-hexLine, allHex-hexLine, length-hexLine, length-unhex, unhex-bytes, hexLine-unhex}
 use Rattle.tide.proofs.FrameLaws.{says-station, says-stamp, says-age, says-level, signed-bits, frame-intact, written}
 
--- ---- an intact line's number goes by its least reader and its fields alone
+-- ---- an intact frame's line passes 11 to 16, and its number goes by its least reader and its fields alone
 first-one : (t u : Bool) (n : ℕ) → (t && not u) ≡ false → first (t && not u) 16 n ≡ n
 unfolding first
 first-one t u n e = rw e refl
@@ -25,10 +26,9 @@ one-by : (t : Bool) (a b : ℕ) → eqb a 1 ≡ t → (a ≡ 1 → b ≡ 13) →
 one-by true a b e h = rw (eq-eqb b 13 (h (eqb-true a 1 e))) refl
 one-by false a b e h = refl
 
-pub intact-number : (mine : ℕ) (f : List ℕ) → Intact f
-    → ofLine mine (hexLine f) false ≡ first (ltb 1 (readerOf f)) 17 (ofFields mine (stationOf f) (stampOf f) (ageOf f) (levelOf f))
-unfolding ofLine ofFrame first
-intact-number mine f i =
+pub intact-passes : (f : List ℕ) → Intact f → Passes (hexLine f) false
+unfolding damageOf first
+intact-passes f i =
     let l = length-hexLine f in
     let a : 26 ≤ length (hexLine f) = omega arith in
     let o : length (hexLine f) ≤ 64 = omega arith in
@@ -49,18 +49,22 @@ intact-number mine f i =
     )
     (first-one (eqb (getD f 0 0) 1) (eqb (length f) 13) _ (one-by _ (getD f 0 0) (length f) refl (i .first)))
 
+pub intact-number : (mine : ℕ) (f : List ℕ) → Intact f → ofLine mine (hexLine f) false ≡ judgedOf mine f
+unfolding ofLine
+intact-number mine f i = rw (intact-passes f i, unhex-hexLine f (i .bytes)) refl
+
 -- "F = 1 keeps all twelve": an intact line for readers from 1 on is judged on its four fields, whatever its later bytes
 pub judge-fields : (mine : ℕ) (r : Shown) (f : List ℕ) → Intact f → readerOf f ≡ 1
     → judge mine r (hexLine f) false
-    ≡ settle (ofFields mine (stationOf f) (stampOf f) (ageOf f) (levelOf f)) r (stampOf f - ageOf f) (signed (levelOf f))
-unfolding judge waterOf first
+    ≡ settle (ofFields mine (stationOf f) (stampOf f) (ageOf f) (levelOf f)) r (record { water = stampOf f - ageOf f; level = signed (levelOf f) })
+unfolding judge readingOf waterOf judgedOf first
 judge-fields mine r f i e =
     let h : getD f 1 0 ≤ 1 = omega arith in
     rw (intact-number mine f i, unhex-hexLine f (i .bytes), le-ltb 1 (getD f 1 0) h) refl
 
 -- "one for newer readers has F > 1, and where it is intact it gets 17"; what stands still stands
 pub judge-newer : (mine : ℕ) (r : Shown) (f : List ℕ) → Intact f → 1 < readerOf f → judge mine r (hexLine f) false ≡ record { answer = 17; reading = r }
-unfolding judge settle first
+unfolding judge settle judgedOf first
 judge-newer mine r f i h = rw (intact-number mine f i, lt-ltb 1 (getD f 1 0) h) refl
 
 -- ---- the writer's side
@@ -68,7 +72,7 @@ judge-newer mine r f i h = rw (intact-number mine f i, lt-ltb 1 (getD f 1 0) h) 
 -- stamp, age and level
 pub fields : (w : Writer) → Rules w → (mine : ℕ) (r : Shown) → w .reader ≡ 1
     → judge mine r (lineBy w) false
-    ≡ settle (ofFields mine (w .station) (w .stamp) (w .age) (bitsOf (w .level))) r (w .stamp - w .age) (w .level)
+    ≡ settle (ofFields mine (w .station) (w .stamp) (w .age) (bitsOf (w .level))) r (record { water = w .stamp - w .age; level = w .level })
 unfolding lineBy
 fields w k mine r e =
     judge-fields mine r (frameOf w) (frame-intact w k) (unfold frameOf in e)
@@ -85,11 +89,11 @@ pub fields-alike : (v w : Writer) → Rules v → Rules w → v .reader ≡ 1 �
     → (mine : ℕ) (r : Shown) → judge mine r (lineBy v) false ≡ judge mine r (lineBy w) false
 fields-alike v w i j e h s t a l mine r = rw (fields v i mine r e, fields w j mine r h, s, t, a, l) refl
 
-first-passes : (t : Bool) (k n : ℕ) → 1 ≤ k → k ≤ 16 → Passes (first t k n) → (t ≡ false) × Passes n
+-- ---- what a line that passes 11 to 16 says
+pub first-zero : (t : Bool) (n r : ℕ) → first t (suc n) r ≡ 0 → (t ≡ false) × (r ≡ 0)
 unfolding first
-first-passes true k n p q (inl e) = absurd (omega arith)
-first-passes true k n p q (inr h) = absurd (omega arith)
-first-passes false k n p q h = (refl, h)
+first-zero true n r e = absurd (omega arith)
+first-zero false n r e = (refl, e)
 
 pub or-false : (a b : Bool) → (a || b) ≡ false → (a ≡ false) × (b ≡ false)
 or-false true b e = absurd (let y : _≡_ {A = ℕ} 0 1 = cc in omega arith)
@@ -103,15 +107,15 @@ and-not : (t : Bool) (a b : ℕ) → eqb a 1 ≡ t → (t && not (eqb b 13)) ≡
 and-not true a b e f h = eqb-true b 13 (not-false (eqb b 13) f)
 and-not false a b e f h = absurd (eqb-false a 1 e h)
 
-pub passed : (mine : ℕ) (l : List ℕ) (more : Bool) → Passes (ofLine mine l more) → Passed l more
-unfolding ofLine ofFrame
-passed mine l more p =
-    let a = first-passes _ 11 _ (omega arith) (omega arith) p in
-    let b = first-passes _ 12 _ (omega arith) (omega arith) (a .1) in
-    let c = first-passes _ 13 _ (omega arith) (omega arith) (b .1) in
-    let d = first-passes _ 14 _ (omega arith) (omega arith) (c .1) in
-    let e = first-passes _ 15 _ (omega arith) (omega arith) (d .1) in
-    let g = first-passes _ 16 _ (omega arith) (omega arith) (e .1) in
+pub passed : (l : List ℕ) (more : Bool) → Passes l more → Passed l more
+unfolding damageOf
+passed l more p =
+    let a = first-zero _ 10 _ p in
+    let b = first-zero _ 11 _ (a .1) in
+    let c = first-zero _ 12 _ (b .1) in
+    let d = first-zero _ 13 _ (c .1) in
+    let e = first-zero _ 14 _ (d .1) in
+    let g = first-zero _ 15 _ (e .1) in
     let f = unhex l in
     let o = or-false more _ (a .0) in
     let most = ltb-false 64 (length l) (o .1) in
@@ -148,10 +152,48 @@ passed mine l more p =
     over : (k : ℕ) → (k ≡ 0 → ⊥) → 1 ≤ k
     over k p = omega arith
 
-pub some-writer : (mine : ℕ) (l : List ℕ) (more : Bool) → Passes (ofLine mine l more)
-    → (w : Writer) × Rules w × (lineBy w ≡ l) × (more ≡ false)
+pub some-writer : (l : List ℕ) (more : Bool) → Passes l more → (w : Writer) × Rules w × (lineBy w ≡ l) × (more ≡ false)
 unfolding lineBy
-some-writer mine l more p =
-    let k = passed mine l more p in
+some-writer l more p =
+    let k = passed l more p in
     let w = written (unhex l) (k .frame) in
     (w .0, w .1, rw (w .2) (k .line), k .whole)
+
+-- ---- a line passes 11 to 16 exactly where its number is none of these
+first-few : (t : Bool) (k n : ℕ) → k ≤ 16 → n ≤ 16 → first t k n ≤ 16
+unfolding first
+first-few true k n p q = p
+first-few false k n p q = q
+
+damage-few : (l : List ℕ) (more : Bool) → damageOf l more ≤ 16
+unfolding damageOf
+damage-few l more =
+    first-few _ 11 _ (omega arith)
+    (first-few _ 12 _ (omega arith)
+    (first-few _ 13 _ (omega arith)
+    (first-few _ 14 _ (omega arith)
+    (first-few _ 15 _ (omega arith)
+    (first-few _ 16 0 (omega arith) (omega arith))))))
+
+first-over : (t : Bool) (k n : ℕ) → 17 ≤ k → (n ≡ 0) ⊎ (17 ≤ n) → (first t k n ≡ 0) ⊎ (17 ≤ first t k n)
+unfolding first
+first-over true k n p q = inr p
+first-over false k n p q = q
+
+judged-over : (mine : ℕ) (f : List ℕ) → (judgedOf mine f ≡ 0) ⊎ (17 ≤ judgedOf mine f)
+unfolding judgedOf ofFields
+judged-over mine f =
+    first-over _ 17 _ (omega arith)
+    (first-over _ 18 _ (omega arith)
+    (first-over _ 19 _ (omega arith)
+    (first-over _ 20 0 (omega arith) (inl refl))))
+
+passes-by : (t : Bool) (n k : ℕ) → eqb n 0 ≡ t → n ≤ 16 → ((if t then k else n) ≡ 0) ⊎ (17 ≤ (if t then k else n)) → n ≡ 0
+passes-by true n k e h p = eqb-true n 0 e
+passes-by false n k e h (inl p) = p
+passes-by false n k e h (inr p) = absurd (omega arith)
+
+pub passes-number : (mine : ℕ) (l : List ℕ) (more : Bool) → ((ofLine mine l more ≡ 0) ⊎ (17 ≤ ofLine mine l more)) ↔ Passes l more
+unfolding ofLine
+passes-number mine l more =
+    (λ p. passes-by _ (damageOf l more) (judgedOf mine (unhex l)) refl (damage-few l more) p, λ e. rw e (judged-over mine (unhex l)))

@@ -1,4 +1,4 @@
--- Laws of the definitions, in their order, and what the proofs of the functions cite (Checks, Stores, Bytewise).
+-- Laws of the definitions, in their order, and what the proofs of the functions cite (Checks, Stores, Moves).
 pub mod FrameLaws
 pub mod LineExamples
 pub mod JudgeLaws
@@ -6,4 +6,4 @@ pub mod Checks
 pub mod DecoderLaws
 pub mod DecoderRepLaws
 pub mod Stores
-pub mod Bytewise
+pub mod Moves

@@ -1,27 +1,28 @@
--- The decoder: bytes collected into lines, the lines judged, and their answers counted; and what is claimed of many lines. Assumes nothing.
+-- The decoder: what is heard collected into lines, the lines judged, and their answers counted; and what is claimed of many lines. Assumes nothing.
 use Prim.Native.Nat.{ℕ, _+_, _-_, _≤_, _<_}
 use mathlib.Core.Path.{_≡_}
 use mathlib.Core.Logic.{_⊎_, _↔_}
-use mathlib.Core.Bool.{Bool, true, false, _&&_, not}
+use mathlib.Core.Bool.{Bool, true, false, _&&_}
 use mathlib.Core.List.{List, [], _∷_, _++_}
 use lib.Dec.{ltb, leb, eqb}
-use lib.IntN.{ℤ}
-use lib.ListN.{length, getD, set, replicate}
+use lib.ListN.{length, getD, set, take, drop, replicate}
 use Rattle.numeric.specs.If.{if_then_else_}
 use Rattle.hexadecimal.specs.Hex.{unhex, total}
-use Rattle.tide.specs.Frame.{levelOf, signed, waterOf, Writer, Rules, lineBy}
-use Rattle.tide.specs.Judge.{Shown, none, shows, Verdict, judge, ofLine, Passes}
-use Rattle.refusal.specs.Refusals.{first}
+use Rattle.tide.specs.Frame.{Writer, Rules, lineBy}
+use Rattle.tide.specs.Judge.{Reading, readingOf, Shown, none, shows, Verdict, judge, ofLine, Passes}
+use Rattle.happenings.specs.declared.happening.Happening.{Happening}
+use Rattle.happenings.specs.declared.happening.Happening.the-variants.{Byte, Lost, Up, Down}
 
 -- "the unended line (its first 64 characters and whether there were more)"
 pub record Line : Type 0 where
   pub chars : List ℕ
   pub more : Bool
 
+-- "an empty line"
 abbrev pub emptyLine : Line
 emptyLine = record { chars = []; more = false }
 
--- the part of the plain board that bytes change: "station, .. the unended line, reading or none, one count for each line answer"
+-- the part of the plain board that what is heard changes: "station, .. the unended line, reading or none, one count for each line answer"
 pub record Decoder : Type 0 where
   pub station : ℕ
   pub line : Line
@@ -69,26 +70,67 @@ longer l c =
     then record { chars = l .chars ++ c ∷ []; more = l .more }
     else record { chars = l .chars; more = true }
 
+-- a decoder whose line has a character more
 unfoldable pub grown : Decoder → ℕ → Decoder
 grown d c = record { station = d .station; line = longer (d .line) c; reading = d .reading; counts = d .counts }
 
--- "adds each byte to the line": 0A (10) ends it
-unfoldable pub addByte : Decoder → ℕ → Decoder
-addByte d c = if eqb c 10 then ended d else grown d c
+-- ---- what is heard
+-- what a happening does to a decoder
+pub data Move : Type 0 where
+  -- the line is judged and emptied
+  ends : Move
+  -- a character more
+  grows : ℕ → Move
+  -- nothing changes
+  stays : Move
 
-unfoldable pub addBytes : Decoder → List ℕ → Decoder
-addBytes d [] = d
-addBytes d (c ∷ cs) = addBytes (addByte d c) cs
+-- "adds each byte to the line": 0A (10) ends it; "a line runs on over a lost carrier"
+unfoldable pub moveOf : Happening → Move
+moveOf (Byte c) = if eqb c 10 then ends else grows c
+moveOf Lost = stays
+moveOf Up = stays
+moveOf Down = stays
 
--- the lines that bytes end, in order
-unfoldable pub linesIn : Decoder → List ℕ → List Line
+-- a decoder after a move
+unfoldable pub moved : Decoder → Move → Decoder
+moved d ends = ended d
+moved d (grows c) = grown d c
+moved d stays = d
+
+-- the line that a move ends: one, or none
+abbrev pub lineAt : Decoder → Move → List Line
+lineAt d ends = d .line ∷ []
+lineAt d (grows c) = []
+lineAt d stays = []
+
+-- the answer that this line gets: one, or none
+abbrev pub verdictAt : Decoder → Move → List ℕ
+verdictAt d ends = verdict d .answer ∷ []
+verdictAt d (grows c) = []
+verdictAt d stays = []
+
+-- a decoder after a happening
+unfoldable pub took : Decoder → Happening → Decoder
+took d h = moved d (moveOf h)
+
+-- a decoder after what was heard, in order
+unfoldable pub tookAll : Decoder → List Happening → Decoder
+tookAll d [] = d
+tookAll d (h ∷ hs) = tookAll (took d h) hs
+
+-- the lines that are ended, in order
+unfoldable pub linesIn : Decoder → List Happening → List Line
 linesIn d [] = []
-linesIn d (c ∷ cs) = (if eqb c 10 then d .line ∷ [] else []) ++ linesIn (addByte d c) cs
+linesIn d (h ∷ hs) = lineAt d (moveOf h) ++ linesIn (took d h) hs
 
 -- the answers that those lines get, in order
-unfoldable pub verdictsIn : Decoder → List ℕ → List ℕ
+unfoldable pub verdictsIn : Decoder → List Happening → List ℕ
 verdictsIn d [] = []
-verdictsIn d (c ∷ cs) = (if eqb c 10 then verdict d .answer ∷ [] else []) ++ verdictsIn (addByte d c) cs
+verdictsIn d (h ∷ hs) = verdictAt d (moveOf h) ++ verdictsIn (took d h) hs
+
+-- answers laid at the front of a slice, as many as have room; the rest of it as it was
+unfoldable pub laidIn : List ℕ → List ℕ → List ℕ
+laidIn vs out = take (length out) vs ++ drop (length vs) out
 
 -- the last of a list, `other` where it has none
 unfoldable pub lastOf : ℕ → List ℕ → ℕ
@@ -121,58 +163,50 @@ pub record Tallied (cs ds vs : List ℕ) : Type 0 where
   pub each : (n : ℕ) → IsAnswer n → getD ds (place n) 0 ≡ getD cs (place n) 0 + times n vs
   pub whole : total ds ≡ total cs + length vs
 
--- a good line's W and level
-pub record Good : Type 0 where
-  pub water : ℕ
-  pub level : ℤ
+-- a line's reading alone where it is good, and nothing where it is not
+unfoldable pub goodOf : ℕ → Line → List Reading
+goodOf mine l = if eqb (ofLine mine (l .chars) (l .more)) 0 then readingOf (unhex (l .chars)) ∷ [] else []
 
--- the line alone where it is good, and nothing where it is not
-unfoldable pub goodOf : ℕ → Line → List Good
-goodOf mine l =
-    if eqb (ofLine mine (l .chars) (l .more)) 0
-    then record { water = waterOf (unhex (l .chars)); level = signed (levelOf (unhex (l .chars))) } ∷ []
-    else []
-
--- the good ones of a list of lines
-unfoldable pub goods : ℕ → List Line → List Good
+-- the readings of the good ones of a list of lines
+unfoldable pub goods : ℕ → List Line → List Reading
 goods mine [] = []
 goods mine (l ∷ ls) = goodOf mine l ++ goods mine ls
 
 -- each W is less than w; each is at most w
-abbrev pub Below : ℕ → List Good → Type 0
+abbrev pub Below : ℕ → List Reading → Type 0
 Below w [] = Unit {0}
 Below w (g ∷ gs) = (g .water < w) × Below w gs
 
-abbrev pub AtMost : ℕ → List Good → Type 0
+abbrev pub AtMost : ℕ → List Reading → Type 0
 AtMost w [] = Unit {0}
 AtMost w (g ∷ gs) = (g .water ≤ w) × AtMost w gs
 
 -- "The reading's W is at least that of every other good line judged since fresh, and greater than that of every good line judged before
 -- it"; and there is no reading where there was no good line
-abbrev pub Best : List Good → Shown → Type 0
+abbrev pub Best : List Reading → Shown → Type 0
 Best gs none = gs ≡ []
-Best gs (shows w v) =
-    (before : List Good) × (behind : List Good)
-    × (gs ≡ before ++ record { water = w; level = v } ∷ behind) × Below w before × AtMost w behind
+Best gs (shows r) =
+    (before : List Reading) × (behind : List Reading)
+    × (gs ≡ before ++ r ∷ behind) × Below (r .water) before × AtMost (r .water) behind
 
--- ---- all that is claimed of the lines "judged since fresh": of bytes from a fresh decoder on
-pub record SinceFresh (station : ℕ) (bs : List ℕ) : Type 0 where
+-- ---- all that is claimed of the lines "judged since fresh": of what is heard by a fresh decoder
+pub record SinceFresh (station : ℕ) (hs : List Happening) : Type 0 where
   -- the reading is the best of the good lines judged, and there is none exactly where there was no good line
-  pub reading : Best (goods station (linesIn (freshDecoder station) bs)) (addBytes (freshDecoder station) bs .reading)
-  pub empty : (addBytes (freshDecoder station) bs .reading ≡ none) ↔ (goods station (linesIn (freshDecoder station) bs) ≡ [])
+  pub reading : Best (goods station (linesIn (freshDecoder station) hs)) (tookAll (freshDecoder station) hs .reading)
+  pub empty : (tookAll (freshDecoder station) hs .reading ≡ none) ↔ (goods station (linesIn (freshDecoder station) hs) ≡ [])
   -- each count is how often its answer was given; together they are the lines judged
-  pub counts : (n : ℕ) → IsAnswer n → countOf (addBytes (freshDecoder station) bs) n ≡ times n (verdictsIn (freshDecoder station) bs)
-  pub judged : length (linesIn (freshDecoder station) bs) ≡ total (addBytes (freshDecoder station) bs .counts)
+  pub counts : (n : ℕ) → IsAnswer n → countOf (tookAll (freshDecoder station) hs) n ≡ times n (verdictsIn (freshDecoder station) hs)
+  pub judged : length (linesIn (freshDecoder station) hs) ≡ total (tookAll (freshDecoder station) hs .counts)
   -- the answers and the reading are those of the lines, judged one after the other
-  pub verdicts : verdictsIn (freshDecoder station) bs ≡ answersOn station none (linesIn (freshDecoder station) bs)
-  pub shown : addBytes (freshDecoder station) bs .reading ≡ shownOn station none (linesIn (freshDecoder station) bs)
+  pub verdicts : verdictsIn (freshDecoder station) hs ≡ answersOn station none (linesIn (freshDecoder station) hs)
+  pub shown : tookAll (freshDecoder station) hs .reading ≡ shownOn station none (linesIn (freshDecoder station) hs)
   -- at each place: the line's answer, and what stood and stands
   pub each :
-      (ls rs : List Line) (l : Line) → linesIn (freshDecoder station) bs ≡ ls ++ l ∷ rs
-      → (getD (verdictsIn (freshDecoder station) bs) (length ls) 0 ≡ judge station (shownOn station none ls) (l .chars) (l .more) .answer)
+      (ls rs : List Line) (l : Line) → linesIn (freshDecoder station) hs ≡ ls ++ l ∷ rs
+      → (getD (verdictsIn (freshDecoder station) hs) (length ls) 0 ≡ judge station (shownOn station none ls) (l .chars) (l .more) .answer)
       × (shownOn station none (ls ++ l ∷ []) ≡ judge station (shownOn station none ls) (l .chars) (l .more) .reading)
   -- and a line that passes 11 to 16 is one that some writer writes
   pub writers :
-      (ls rs : List Line) (l : Line) → linesIn (freshDecoder station) bs ≡ ls ++ l ∷ rs
-      → Passes (ofLine station (l .chars) (l .more))
+      (ls rs : List Line) (l : Line) → linesIn (freshDecoder station) hs ≡ ls ++ l ∷ rs
+      → Passes (l .chars) (l .more)
       → (w : Writer) × Rules w × (lineBy w ≡ l .chars) × (l .more ≡ false)

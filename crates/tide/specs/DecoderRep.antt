@@ -1,11 +1,13 @@
 -- How the code holds what specs/Decoder.antt speaks of, the invariant of its states, and what each call does. Assumes nothing.
 use Prim.Native.Nat.{ℕ, _+_, _≤_, min}
 use mathlib.Core.Path.{_≡_}
+use mathlib.Core.Bool.{Bool, true, false}
 use mathlib.Core.List.{List, [], _∷_}
-use lib.Dec.{eqb}
-use lib.ListN.{length, take}
+use lib.ListN.{length, take, set}
 use Rattle.numeric.specs.If.{if_then_else_}
 use Rattle.hexadecimal.specs.Hex.{total}
+use Rattle.happenings.specs.Happening.{bytesIn}
+use Rattle.happenings.specs.declared.happening.Happening.{Happening}
 use Rattle.tide.specs.JudgeRep.{shownOf}
 use Rattle.tide.specs.Decoder as plain
 use Rattle.tide.specs.declared.decoder.Line.{Line}
@@ -17,6 +19,7 @@ use Rattle.tide.specs.declared.decoder.Fed.{Fed}
 abbrev pub lineOf : Line → plain.Line
 lineOf l = record { chars = take (l .len) (l .chars); more = l .more }
 
+-- the same station, line, reading and counts
 abbrev pub decoderOf : Decoder → plain.Decoder
 decoderOf d = record { station = d .station; line = lineOf (d .line); reading = shownOf (d .reading); counts = d .counts }
 
@@ -48,26 +51,34 @@ pub record Made (station : ℕ) (d : Decoder) : Type 0 where
   pub same : decoderOf d ≡ plain.freshDecoder station
   pub sound : Sound d
 
--- one byte: the decoder after it, whether it ended a line, and that line's answer (0 where it ended none)
-pub record Stepped (d : Decoder) (c : ℕ) (r : Step) : Type 0 where
-  pub same : decoderOf (r .decoder) ≡ holding (plain.addByte (decoderOf d) c)
+-- whether a move ends a line
+abbrev pub isEnd : plain.Move → Bool
+isEnd plain.ends = true
+isEnd (plain.grows c) = false
+isEnd plain.stays = false
+
+-- one move: the decoder after it, whether it ended a line, and that line's answer (0 where it ended none)
+pub record Stepped (d : Decoder) (m : plain.Move) (r : Step) : Type 0 where
+  pub same : decoderOf (r .decoder) ≡ holding (plain.moved (decoderOf d) m)
   pub sound : Sound (r .decoder)
   pub few : total (r .decoder .counts) ≤ total (d .counts) + 1
-  pub ended : r .ended ≡ eqb c 10
-  pub answer : r .answer ≡ (if eqb c 10 then plain.verdict (decoderOf d) .answer else 0)
+  pub ended : r .ended ≡ isEnd m
+  pub answer : r .answer ≡ (if isEnd m then plain.verdict (decoderOf d) .answer else 0)
 
--- bytes: the decoder after them, the number of lines ended, and the last one's answer (0 also when none ended)
-pub record Feeds (d : Decoder) (bs : List ℕ) (r : Fed) : Type 0 where
-  pub same : decoderOf (r .decoder) ≡ holding (plain.addBytes (decoderOf d) bs)
+-- what is heard: the decoder after it, the number of lines ended, the last one's answer (0 also when none ended), and in the lent slice
+-- the answers of all of them
+pub record Feeds (d : Decoder) (hs : List Happening) (out : List ℕ) (r : Fed) (out′ : List ℕ) : Type 0 where
+  pub same : decoderOf (r .decoder) ≡ holding (plain.tookAll (decoderOf d) hs)
   pub sound : Sound (r .decoder)
-  pub few : total (r .decoder .counts) ≤ total (d .counts) + length bs
-  pub lines : r .lines ≡ length (plain.linesIn (decoderOf d) bs)
-  pub last : r .last ≡ plain.lastOf 0 (plain.verdictsIn (decoderOf d) bs)
+  pub few : total (r .decoder .counts) ≤ total (d .counts) + length (bytesIn hs)
+  pub lines : r .lines ≡ length (plain.linesIn (decoderOf d) hs)
+  pub last : r .last ≡ plain.lastOf 0 (plain.verdictsIn (decoderOf d) hs)
+  pub verdicts : out′ ≡ plain.laidIn (plain.verdictsIn (decoderOf d) hs) out
 
--- one byte of several
-pub record Byted (f : Fed) (c : ℕ) (r : Fed) : Type 0 where
-  pub same : decoderOf (r .decoder) ≡ holding (plain.addByte (decoderOf (f .decoder)) c)
+-- one happening of several; the answer of a line that it ends stands behind those of the lines before, where there is room
+pub record FedOne (f : Fed) (h : Happening) (out : List ℕ) (r : Fed) (out′ : List ℕ) : Type 0 where
+  pub same : decoderOf (r .decoder) ≡ holding (plain.took (decoderOf (f .decoder)) h)
   pub sound : Sound (r .decoder)
-  pub few : total (r .decoder .counts) ≤ total (f .decoder .counts) + 1
-  pub lines : r .lines ≡ f .lines + (if eqb c 10 then 1 else 0)
-  pub last : r .last ≡ (if eqb c 10 then plain.verdict (decoderOf (f .decoder)) .answer else f .last)
+  pub lines : r .lines ≡ f .lines + (if isEnd (plain.moveOf h) then 1 else 0)
+  pub last : r .last ≡ (if isEnd (plain.moveOf h) then plain.verdict (decoderOf (f .decoder)) .answer else f .last)
+  pub verdicts : out′ ≡ (if isEnd (plain.moveOf h) then set out (f .lines) (plain.verdict (decoderOf (f .decoder)) .answer) else out)

@@ -1,12 +1,16 @@
-// The decoder: the unended line, the reading and the counts, and what bytes do to them.
-use crate::Reading;
+// The decoder: the unended line, the reading and the counts, and what is heard does to them.
+use crate::Shown;
 use crate::judge::judge_line;
+use happenings::Happening;
+use happenings::happening_of;
 ghost use mathlib.Core.Path.{_≡_};
 ghost use Prim.Native.Nat.{_+_, _<_, min};
-ghost use lib.ListN.{length};
-ghost use Rattle.tide.specs.Decoder.{IsAnswer, place, countOf, bump, longer};
+ghost use lib.ListN.{length, set};
+ghost use Rattle.happenings.specs.Happening.{happeningsOf};
+ghost use Rattle.happenings.specs.declared.happening.Happening.the-variants.{Byte};
+ghost use Rattle.tide.specs.Decoder.{IsAnswer, place, countOf, bump, longer, ends, grows, stays, moveOf};
 ghost use Rattle.tide.specs.JudgeRep.{shownOf};
-ghost use Rattle.tide.specs.DecoderRep.{lineOf, decoderOf, mostCount, held, SoundLine, Sound, Made, Stepped, Byted, Feeds};
+ghost use Rattle.tide.specs.DecoderRep.{lineOf, decoderOf, mostCount, held, SoundLine, Sound, Made, Stepped, FedOne, Feeds};
 
 // A line: its first 64 characters, and whether there were more.
 pub struct Line {
@@ -15,23 +19,23 @@ pub struct Line {
     more: bool,
 }
 
-// What bytes change: the station's unended line, its reading, and its counts.
+// What is heard changes: the station's unended line, its reading, and its counts.
 pub struct Decoder {
     station: u16,
     line: Line,
-    reading: Reading,
+    reading: Shown,
     // One for each line answer: 0, 11 to 20, 34.
     counts: [u64; 12],
 }
 
-// What a byte did: whether it ended a line, and that line's answer.
+// What a happening did: whether it ended a line, and that line's answer.
 pub struct Step {
     pub decoder: Decoder,
     pub ended: bool,
     pub answer: u8,
 }
 
-// What bytes did: how many lines they ended, and the last one's answer.
+// What was heard did: how many lines it ended, and the last one's answer.
 pub struct Fed {
     pub decoder: Decoder,
     pub lines: u64,
@@ -114,7 +118,7 @@ impl Decoder {
         Decoder {
             station: station,
             line: line,
-            reading: Reading::None,
+            reading: Shown::None,
             counts: [0; 12],
         }
     }
@@ -122,7 +126,7 @@ impl Decoder {
     // The line is judged, counted and emptied.
     fn end_line(self) -> Step
         requires { ⌜ Sound self ⌝ }
-        ensures { λ r. ⌜ Stepped self 10 r ⌝ }
+        ensures { λ r. ⌜ Stepped self ends r ⌝ }
     {
         let l = self.line;
         let ch = l.chars;
@@ -152,8 +156,8 @@ impl Decoder {
 
     // The line is one character longer.
     fn grow(self, c: u8) -> Step
-        requires { ⌜ Sound self × (c ≡ 10 → ⊥) ⌝ }
-        ensures { λ r. ⌜ Stepped self c r ⌝ }
+        requires { ⌜ Sound self ⌝ }
+        ensures { λ r. ⌜ Stepped self (grows c) r ⌝ }
     {
         let l = self.line;
         let rd = self.reading;
@@ -172,10 +176,22 @@ impl Decoder {
         }
     }
 
+    // Nothing changes.
+    fn stay(self) -> Step
+        requires { ⌜ Sound self ⌝ }
+        ensures { λ r. ⌜ Stepped self stays r ⌝ }
+    {
+        Step {
+            decoder: self,
+            ended: false,
+            answer: 0,
+        }
+    }
+
     // Takes one byte: 0A ends the line.
     pub fn add_byte(self, c: u8) -> Step
         requires { ⌜ Sound self ⌝ }
-        ensures { λ r. ⌜ Stepped self c r ⌝ }
+        ensures { λ r. ⌜ Stepped self (moveOf (Byte c)) r ⌝ }
     {
         if c == 10 {
             return self.end_line();
@@ -183,10 +199,24 @@ impl Decoder {
         self.grow(c)
     }
 
-    // Takes bytes, in order.
-    pub fn feed(self, s: &[u8]) -> Fed
+    // Takes what happened at a step: a byte. A line runs on over a lost carrier.
+    pub fn take(self, h: Happening) -> Step
         requires { ⌜ Sound self ⌝ }
-        ensures { λ r. ⌜ Feeds self (now (s .entry)) r ⌝ }
+        ensures { λ r. ⌜ Stepped self (moveOf h) r ⌝ }
+    {
+        match h {
+            Happening::Byte(c) => self.add_byte(c),
+            Happening::Lost => self.stay(),
+            Happening::Up => self.stay(),
+            Happening::Down => self.stay(),
+        }
+    }
+
+    // Takes what was heard, in order, by its codes; the answers of the lines that it ends go to the front of `verdicts`, as many as have
+    // room there.
+    pub fn feed(self, codes: &[u16], verdicts: &mut [u8]) -> Fed
+        requires { ⌜ Sound self ⌝ }
+        ensures { λ r. ⌜ Feeds self (happeningsOf (now (codes .entry))) (now (verdicts .entry)) r (now (verdicts .exit)) ⌝ }
     {
         let mut f = Fed {
             decoder: self,
@@ -194,8 +224,9 @@ impl Decoder {
             last: 0,
         };
         let mut i = 0;
-        while i < s.len() {
-            f = feed_byte(f, s[i]);
+        while i < codes.len() {
+            let h = happening_of(codes[i]);
+            f = feed_one(f, h, verdicts);
             i += 1;
         }
         f
@@ -209,7 +240,7 @@ impl Decoder {
     }
 
     // What the decoder shows.
-    pub fn reading(self) -> Reading
+    pub fn reading(self) -> Shown
         ensures { λ r. ⌜ shownOf r ≡ decoderOf self .reading ⌝ }
     {
         self.reading
@@ -236,14 +267,25 @@ impl Decoder {
     }
 }
 
-// A byte more of several: the decoder, the lines ended so far and the last one's answer.
-fn feed_byte(f: Fed, c: u8) -> Fed
-    requires { ⌜ Sound (f .decoder) × (f .lines < mostCount) ⌝ }
-    ensures { λ r. ⌜ Byted f c r ⌝ }
+// Stores an answer at its place, where there is room.
+fn lay(verdicts: &mut [u8], n: u64, answer: u8)
+    ensures { λ _. ⌜ now (verdicts .exit) ≡ set (now (verdicts .entry)) n answer ⌝ }
 {
-    let t = f.decoder.add_byte(c);
+    let k = n as usize;
+    if k < verdicts.len() {
+        verdicts[k] = answer;
+    }
+}
+
+// A happening more of several: the decoder, the lines ended so far, the last one's answer, and all answers.
+fn feed_one(f: Fed, h: Happening, verdicts: &mut [u8]) -> Fed
+    requires { ⌜ Sound (f .decoder) × (f .lines < mostCount) ⌝ }
+    ensures { λ r. ⌜ FedOne f h (now (verdicts .entry)) r (now (verdicts .exit)) ⌝ }
+{
+    let t = f.decoder.take(h);
     let d = t.decoder;
     if t.ended {
+        lay(verdicts, f.lines, t.answer);
         return Fed {
             decoder: d,
             lines: f.lines + 1,

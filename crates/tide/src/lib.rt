@@ -1,8 +1,8 @@
-// The tide line: a line judged, and the decoder that collects bytes into lines, has them judged and counts the answers.
+// The tide line: a line judged, and the decoder that collects what is heard into lines, has them judged and counts the answers.
 //
 //   frame     the fields of the frame that a line says      specs/Frame.antt
 //   judge     a line's answer, and the reading after it     specs/Judge.antt, JudgeRep.antt
-//   decoder   bytes to lines, their answers counted         specs/Decoder.antt, DecoderRep.antt
+//   decoder   what is heard to lines, their answers counted specs/Decoder.antt, DecoderRep.antt
 mod decoder;
 mod frame;
 mod judge;
@@ -11,3 +11,4 @@ pub use decoder::Decoder;
 pub use decoder::Fed;
 pub use decoder::Step;
 pub use judge::Reading;
+pub use judge::Shown;

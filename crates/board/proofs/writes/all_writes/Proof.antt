@@ -4,14 +4,14 @@ use native.Mathlib.Omega.{arith}
 use mathlib.Core.Path.{_≡_, refl}
 use Prim.Native.Nat.{_-_, _≤_}
 use lib.ListN.{length, take}
-use Rattle.board.specs.BoardRep.{plainOf, eventsIn}
+use Rattle.board.specs.BoardRep.{plainOf}
 use borrow.Author.Needs.{needs}
 use Rattle.board.proofs.writes.all_writes.Statement.{statement}
 use Rattle.board.proofs.writes.all_writes.Tie as tie
 
 abbrev Inv-loop : tie.InvT-loop
 Inv-loop samples lengths answers₀ writes place₀ i₀ answers place i =
-    (i ≤ writes) × (length answers ≡ length answers₀) × Going (plainOf (place₀ .board)) (eventsIn (place₀ .board)) samples (take writes lengths) answers₀ i place answers
+    (i ≤ writes) × (length answers ≡ length answers₀) × Going (plainOf (place₀ .board)) samples (take writes lengths) answers₀ i place answers
 
 abbrev μ-loop : tie.MeasureT-loop
 μ-loop samples lengths answers₀ writes place₀ i₀ answers place i = writes - i
@@ -50,7 +50,7 @@ loop-again c =
     let l = c .before .before .before .before .before .before .loop in
     let t = c .before .before .before .before .before .loop-test .taken in
     let r = in-reach _ (l .i) (s .lengths .now) (s .answers .now) (c .before .before .before .before .before .before .before .writes-in .ensures) t in
-    (omega (arith, t), search needs, going-on _ _ _ _ _ (l .i) (l .place) _ (l .answers) _ (r .0) (omega (arith, l .inv .1, r .1)) (rw (r .2) (c .before .before .one-write .ensures)) (l .inv .2))
+    (omega (arith, t), search needs, going-on _ _ _ _ (l .i) (l .place) _ (l .answers) _ (r .0) (omega (arith, l .inv .1, r .1)) (rw (r .2) (c .before .before .one-write .ensures)) (l .inv .2))
 
 same-length : tie.Need-same-length Inv-loop μ-loop
 same-length c = search needs

@@ -42,7 +42,7 @@ returns-3 c =
     let numbers = c .before .before .before .before .before .before .before .before .before .shown-numbers in
     let reading = c .before .before .before .before .before .before .before .before .before .before .reading in
     rw (eq-eqb _ 0 (c .before .before .before .before .before .before .before .before .before .before .before .before .if1 .left), le-leb 15 _ (c .before .before .before .before .before .before .before .before .before .before .before .if2 .left))
-    (board-put (plainOf (s .args .board) .decoder .reading) (s .args .board .decoder .counts) (s .args .out .now) (three .last .1 .0) _ _ _ _ (numbers .ensures ∙ ap shownNumbers (reading .ensures)) (three .ensures) counts)
+    (board-put (plainOf (s .args .board) .reading) (s .args .board .decoder .counts) (s .args .out .now) (three .last .1 .0) _ _ _ _ (numbers .ensures ∙ ap shownNumbers (reading .ensures)) (three .ensures) counts)
 
 pub put-board-spec : {M : Type 1} → statement M
 put-board-spec =

@@ -1,5 +1,6 @@
 -- Each of the progress has its own act. Assumes nothing.
 use Rattle.listen_app.proofs.Hearing.{acted-at, view-same}
+use Rattle.listen_app.specs.BlockReaderRep.{gathered}
 use Rattle.listen_app.specs.Listener.{actedBy}
 use mathlib.Core.Path.{refl}
 use borrow.Author.Needs.{needs}
@@ -21,31 +22,30 @@ fresh-numbered-requires c κs = search needs
 enum-told-3 : tie.Need-enum-told-3
 enum-told-3 c = search needs
 
-slice-aggregate-write-block : tie.Need-slice-aggregate-write-block
-slice-aggregate-write-block c = search needs
-
 write-block-requires : tie.Need-write-block-requires
 write-block-requires c κs = search needs
 
 returns : tie.Need-returns
 unfolding actedBy
-returns c = (c .before .before .pre .0, acted-at _ _ _ _ _ (c .enum-told .given .1) refl)
+returns c = (c .before .before .before .pre, acted-at _ _ _ _ _ (c .enum-told .given .1) refl)
 
 returns-2 : tie.Need-returns-2
 unfolding actedBy
-returns-2 c = (c .before .before .pre .0, acted-at _ _ _ _ _ (c .enum-told2 .given .1) refl)
+returns-2 c = (c .before .before .before .pre, acted-at _ _ _ _ _ (c .enum-told2 .given .1) refl)
 
 returns-3 : tie.Need-returns-3
 unfolding actedBy
 returns-3 c =
     let f = c .fresh-numbered .ensures in
-    (f .0, acted-at _ _ _ _ _ (c .before .before .progress .given .1) (view-same (c .before .before .before .before .args .reader) (f .1) (f .2)))
+    let a = c .before .before .before .before .before .args in
+    (f .0, acted-at _ _ _ _ _ (c .before .before .progress .given .1) (view-same (gathered (a .reader) (a .block .now)) (f .1) (f .2)))
 
 returns-4 : tie.Need-returns-4
 unfolding actedBy
 returns-4 c =
     let w = c .write-block .ensures in
-    (w .sound, acted-at _ _ _ _ _ (c .before .before .before .enum-told3 .given .1) (view-same (c .before .before .before .before .before .args .reader) (w .board) (w .lines)))
+    let a = c .before .before .before .before .args in
+    (w .sound, acted-at _ _ _ _ _ (c .before .enum-told3 .given .1) (view-same (gathered (a .reader) (a .block .now)) (w .board) (w .lines)))
 
 pub act-on-spec : {M : Type 1} → statement M
 act-on-spec =
@@ -56,7 +56,6 @@ act-on-spec =
     enum-known-progress
     fresh-numbered-requires
     enum-told-3
-    slice-aggregate-write-block
     write-block-requires
     returns
     returns-2

@@ -14,16 +14,12 @@ array-share-prefix-block c = search needs
 slice-aggregate-write-block : tie.Need-slice-aggregate-write-block
 slice-aggregate-write-block c =
     let s = c .before .before .before .before in
-    let e = s .args .s .reader in
-    let k : e .n ≤ length (e .block) = omega (arith, s .pre .reader .few, s .pre .reader .room) in
-    sym (length-take-le (e .n) (e .block) k)
+    let e = s .args .s in
+    let k : e .reader .n ≤ length (e .block) = omega (arith, s .pre .reader .few, s .pre .reader .room) in
+    sym (length-take-le (e .reader .n) (e .block) k)
 
 write-block-requires : tie.Need-write-block-requires
-write-block-requires c κs =
-    let s = c .before .before .before .before in
-    let e = s .args .s .reader in
-    let k : e .n ≤ length (e .block) = omega (arith, s .pre .reader .few, s .pre .reader .room) in
-    (s .pre .board, rw (length-take-le (e .n) (e .block) k) (omega (arith, s .pre .reader .few)))
+write-block-requires c κs = search needs
 
 reading-requires : tie.Need-reading-requires
 reading-requires c κs = search needs

@@ -4,40 +4,49 @@ use mathlib.Core.Path.{_≡_, refl, ap, _∙_}
 use Rattle.listen_app.specs.Listener.{Listener, listenerOf, heardBytes}
 use Rattle.listen_app.proofs.Hearing.{parts-end}
 use Rattle.listen_app.specs.BlockReader.{BlockReaderSound}
+use Rattle.listen_app.specs.BlockReaderRep.{gathered}
 use Rattle.board.specs.BoardRep.{BoardSound}
-use borrow.Author.Needs.{needs}
 use lib.ListN.{length, drop}
 use Prim.Native.Nat.{_≤_, _-_}
+use borrow.Author.Needs.{needs}
 use Rattle.listen_app.proofs.session.hear_part.Statement.{statement}
 use Rattle.listen_app.proofs.session.hear_part.Tie as tie
 
 abbrev Inv-loop : tie.InvT-loop
-Inv-loop input station role numbered₀ reader₀ at₀ numbered reader at =
-    BoardSound (numbered .board) × BlockReaderSound reader × (at ≤ length input)
-    × (heardBytes station role (listenerOf numbered reader) (drop at input) ≡ heardBytes station role (listenerOf numbered₀ reader₀) (drop at₀ input))
+Inv-loop input station role numbered₀ reader₀ block₀ at₀ numbered reader block at =
+    BoardSound (numbered .board) × BlockReaderSound block (reader .n) × (at ≤ length input)
+    × (heardBytes station role (listenerOf numbered (gathered reader block)) (drop at input)
+    ≡ heardBytes station role (listenerOf numbered₀ (gathered reader₀ block₀)) (drop at₀ input))
 
 abbrev μ-loop : tie.MeasureT-loop
-μ-loop input station role numbered₀ reader₀ at₀ numbered reader at = length input - at
+μ-loop input station role numbered₀ reader₀ block₀ at₀ numbered reader block at = length input - at
 
 loop-holds : tie.Need-loop-holds Inv-loop μ-loop
 loop-holds c =
-    let p = c .before .before .before .pre in
+    let p = c .before .before .before .before .pre in
     (p .board, p .reader, omega arith, refl)
 
 hear-requires : tie.Need-hear-requires Inv-loop μ-loop
-hear-requires c κs = search needs
+hear-requires c κs =
+    let l = c .before .before .loop in
+    (l .inv .1, c .before .loop-test .taken)
+
+slice-aggregate-act-on : tie.Need-slice-aggregate-act-on Inv-loop μ-loop
+slice-aggregate-act-on c = search needs
 
 act-on-requires : tie.Need-act-on-requires Inv-loop μ-loop
-act-on-requires c κs = search needs
+act-on-requires c κs = c .before .before .before .before .before .loop .inv .0
 
 loop-less : tie.Need-loop-less Inv-loop μ-loop
-loop-less c = omega (arith, c .before .before .hear .ensures .on, c .before .before .hear .ensures .within)
+loop-less c =
+    let h = c .before .before .before .hear .ensures in
+    omega (arith, h .on, h .within)
 
 loop-again : tie.Need-loop-again Inv-loop μ-loop
 loop-again c =
-    let l = c .before .before .before .before in
-    let h = c .before .before .hear in
-    let a = l .before .before .before .before .args in (
+    let l = c .before .before .before .before .before .before in
+    let h = c .before .before .before .hear in
+    let a = l .before .before .before .before .before .args in (
       c .act-on .ensures .0,
       h .ensures .sound,
       h .ensures .within,
@@ -58,6 +67,7 @@ hear-part-spec =
     μ-loop
     loop-holds
     hear-requires
+    slice-aggregate-act-on
     act-on-requires
     loop-less
     loop-again

@@ -1,5 +1,10 @@
--- A line that was ended counts one more. Assumes nothing.
-use borrow.Author.Tests.{ne-eqb}
+-- A refused block ends no line. Assumes nothing.
+use Prim.Native.Nat.{ℕ, _+_, _≤_, min}
+use mathlib.Core.Path.{sym, ap, _∙_}
+use native.Mathlib.Omega.{arith}
+use lib.Seq.{length-take-le}
+use Rattle.tide.specs.DecoderRep.{mostCount}
+use Rattle.listen_app.proofs.Blocks.{count-none}
 use borrow.Author.Needs.{needs}
 use Rattle.listen_app.proofs.session.tell.Statement.{statement}
 use Rattle.listen_app.proofs.session.tell.Tie as tie
@@ -31,20 +36,19 @@ write-all-requires-2 c κs = search needs
 enum-known-answer-2 : tie.Need-enum-known-answer-2
 enum-known-answer-2 c = search needs
 
+slice-aggregate-tell-lines : tie.Need-slice-aggregate-tell-lines
+slice-aggregate-tell-lines c = sym (length-take-le _ _ (rw (c .before .before .answer2 .given .1) at (c .before .before .before .before .before .pre)))
+
+tell-lines-requires : tie.Need-tell-lines-requires
+tell-lines-requires c κs = search needs
+
 returns : tie.Need-returns
-returns c = search needs
-
-one-more-requires : tie.Need-one-more-requires
-one-more-requires c κs = search needs
-
-print-answer-requires : tie.Need-print-answer-requires
-print-answer-requires c κs = search needs
+returns c = rw (c .before .before .before .before .before .before .before .answer .given .1) (count-none _ (omega arith))
 
 returns-2 : tie.Need-returns-2
-returns-2 c = search needs
-
-returns-3 : tie.Need-returns-3
-returns-3 c = rw (c .before .before .before .before .answer2 .given .1, ne-eqb _ _ (c .before .before .if1 .left)) (c .before .one-more .ensures)
+returns-2 c =
+    let s = c .before .before .before .before .before .before in
+    rw (c .before .before .before .answer2 .given .1) (c .tell-lines .ensures ∙ ap (λ (n : ℕ). min (s .args .lines + n) mostCount) (sym (slice-aggregate-tell-lines (c .before))))
 
 pub tell-spec : {M : Type 1} → statement M
 tell-spec =
@@ -59,8 +63,7 @@ tell-spec =
     slice-aggregate-write-all-2
     write-all-requires-2
     enum-known-answer-2
+    slice-aggregate-tell-lines
+    tell-lines-requires
     returns
-    one-more-requires
-    print-answer-requires
-    returns-2
-    returns-3)
+    returns-2)

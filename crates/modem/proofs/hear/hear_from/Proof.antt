@@ -2,6 +2,7 @@
 use mathlib.Core.Path.{sym}
 use native.Mathlib.Omega.{arith}
 use lib.Seq.{length-take-le}
+use Rattle.modem.proofs.Resampled.{all-heard}
 use borrow.Author.Needs.{needs}
 use Rattle.modem.proofs.hear.hear_from.Statement.{statement}
 use Rattle.modem.proofs.hear.hear_from.Tie as tie
@@ -16,13 +17,17 @@ slice-aggregate-hear : tie.Need-slice-aggregate-hear
 slice-aggregate-hear c = sym (length-take-le _ _ (slice-reshare-prefix-hear (c .before)))
 
 hear-requires : tie.Need-hear-requires
-hear-requires c κs = rw (c .before .before .before .before .widen-into .ensures .front) (c .before .before .before .before .before .before .before .before .pre .0)
+hear-requires c κs =
+    let p = c .before .before .before .before .before .before .before .before .pre .0 in
+    (p .sound, p .places)
 
 same-length : tie.Need-same-length
 same-length c = search needs
 
 returns : tie.Need-returns
-returns c = rw (c .before .before .before .before .before .widen-into .ensures .front) at (c .hear .ensures)
+returns c =
+    let s = c .before .before .before .before .before .before .before .before .before in
+    all-heard _ _ _ _ _ _ (c .before .before .before .before .before .widen-into .ensures .front) (s .pre .0 .few) (c .hear .ensures)
 
 pub hear-from-spec : {M : Type 1} → statement M
 hear-from-spec =

@@ -1,4 +1,4 @@
--- `hear::resample_into` meets its contract: the call has the room that `max_output_len` gives, so it is not refused. Assumes nothing.
+-- `hear::resample_into` meets its contract: the call has the room that `max_output_len` gives, so nothing is cut off. Assumes nothing.
 use Prim.Native.Nat.{_≤_}
 use lib.ListN.{length, take}
 use Rattle.modem.proofs.Resampled.{room-is, room-few, resamples}
@@ -28,16 +28,16 @@ count-in-requires c κs = search needs
 array-share-prefix-in64 : tie.Need-array-share-prefix-in64
 array-share-prefix-in64 c = search needs
 
-slice-aggregate-process : tie.Need-slice-aggregate-process
-slice-aggregate-process c =
+slice-aggregate-run : tie.Need-slice-aggregate-run
+slice-aggregate-run c =
     let s = c .before .before .before .before .before .before .before .before .before in
     let w = c .before .before .before .before .widen-into .ensures in
     let z : length (c .before .before .before .before .before .before .zeros-1024 .result) ≡ 1024 = search needs in
     sym (length-take-le _ _ (omega (arith, w .places, z, s .pre .2)))
 
-slice-relend-prefix-process : tie.Need-slice-relend-prefix-process
+slice-relend-prefix-run : tie.Need-slice-relend-prefix-run
 unfolding stateOf
-slice-relend-prefix-process c =
+slice-relend-prefix-run c =
     let s = c .before .before .before .before .before .before .before .before .before in
     let m = c .before .before .max-output-len .ensures in
     let n = length (s .args .samples .now) in
@@ -45,14 +45,11 @@ slice-relend-prefix-process c =
     let f = room-few (stateOf (s .args .r)) n (s .pre .2) (s .pre .0 .rates .src-low) (s .pre .1) in
     omega (arith, e, f, s .pre .3)
 
-slice-aggregate-process-2 : tie.Need-slice-aggregate-process-2
-slice-aggregate-process-2 c = sym (length-take-le _ _ (slice-relend-prefix-process (c .before)))
+slice-aggregate-run-2 : tie.Need-slice-aggregate-run-2
+slice-aggregate-run-2 c = sym (length-take-le _ _ (slice-relend-prefix-run (c .before)))
 
-process-requires : tie.Need-process-requires
-process-requires c κs = search needs
-
-count-in-requires-2 : tie.Need-count-in-requires-2
-count-in-requires-2 c κs = search needs
+run-requires : tie.Need-run-requires
+run-requires c κs = search needs
 
 same-length : tie.Need-same-length
 same-length c = search needs
@@ -60,15 +57,14 @@ same-length c = search needs
 returns : tie.Need-returns
 unfolding stateOf
 returns c =
-    let s = c .before .before .before .before .before .before .before .before .before .before .before .before .before .before .before in
-    let w = c .before .before .before .before .before .before .before .before .before .before .widen-into .ensures in
-    let m = c .before .before .before .before .before .before .before .before .max-output-len .ensures in
-    let p = c .before .before .before .before .process .ensures in
+    let s = c .before .before .before .before .before .before .before .before .before .before .before .before .before .before in
+    let w = c .before .before .before .before .before .before .before .before .before .widen-into .ensures in
+    let m = c .before .before .before .before .before .before .before .max-output-len .ensures in
+    let p = c .before .before .before .run .ensures in
     let n = length (s .args .samples .now) in
-    let few : n ≤ 2048 = omega (arith, s .pre .2) in
-    let e = c .before .before .before .before .before .before .before .count-in .ensures ∙ room-is (stateOf (s .args .r)) n (c .before .before .before .before .before .before .before .before .max-output-len .result) few m in
+    let e = c .before .before .before .before .before .before .count-in .ensures ∙ room-is (stateOf (s .args .r)) n (c .before .before .before .before .before .before .before .max-output-len .result) (omega (arith, s .pre .2)) m in
     let f = room-few (stateOf (s .args .r)) n (s .pre .2) (s .pre .0 .rates .src-low) (s .pre .1) in
-    rw (c .count-in2 .ensures) (resamples (s .args .r) _ (s .args .samples .now) (s .args .out .now) _ _ (c .before .before .before .before .process .result .answer) (p .1) few e (s .pre .3) (rw (← e) at f) (rw (w .front) at (p .0)))
+    resamples (s .args .r) _ (s .args .samples .now) (s .args .out .now) _ _ _ (p .1) e (s .pre .3) (rw (← e) at f) (rw (w .front) at (p .0))
 
 pub resample-into-spec : {M : Type 1} → statement M
 resample-into-spec =
@@ -80,10 +76,9 @@ resample-into-spec =
     max-output-len-requires
     count-in-requires
     array-share-prefix-in64
-    slice-aggregate-process
-    slice-relend-prefix-process
-    slice-aggregate-process-2
-    process-requires
-    count-in-requires-2
+    slice-aggregate-run
+    slice-relend-prefix-run
+    slice-aggregate-run-2
+    run-requires
     same-length
     returns)

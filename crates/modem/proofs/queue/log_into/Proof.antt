@@ -1,7 +1,7 @@
--- An event is logged as `log_at` notes it; with none nothing changes. Assumes nothing.
+-- A change is logged as `log_at` events-count it; with none nothing changes. Assumes nothing.
 use mathlib.Core.Path.{refl}
-use borrow.Author.Needs.{needs}
 use Rattle.modem.specs.Queue.{loggingAll}
+use borrow.Author.Needs.{needs}
 use Rattle.modem.proofs.queue.log_into.Statement.{statement}
 use Rattle.modem.proofs.queue.log_into.Tie as tie
 
@@ -11,11 +11,14 @@ enum-told c = search needs
 enum-told-2 : tie.Need-enum-told-2
 enum-told-2 c = search needs
 
+enum-told-3 : tie.Need-enum-told-3
+enum-told-3 c = search needs
+
 log-at-requires : tie.Need-log-at-requires
 log-at-requires c κs = search needs
 
-enum-told-3 : tie.Need-enum-told-3
-enum-told-3 c = search needs
+enum-told-4 : tie.Need-enum-told-4
+enum-told-4 c = search needs
 
 log-at-requires-2 : tie.Need-log-at-requires-2
 log-at-requires-2 c κs = search needs
@@ -26,11 +29,15 @@ returns c = rw (c .enum-told .given .1) (record { waits = refl; sound = c .befor
 
 returns-2 : tie.Need-returns-2
 unfolding loggingAll
-returns-2 c = rw (c .before .before .enum-told2 .given .1) (c .log-at .ensures)
+returns-2 c = rw (c .enum-told2 .given .1) (record { waits = refl; sound = c .before .before .pre })
 
 returns-3 : tie.Need-returns-3
 unfolding loggingAll
-returns-3 c = rw (c .before .before .enum-told3 .given .1) (c .log-at2 .ensures)
+returns-3 c = rw (c .before .before .enum-told3 .given .1) (c .log-at .ensures)
+
+returns-4 : tie.Need-returns-4
+unfolding loggingAll
+returns-4 c = rw (c .before .before .enum-told4 .given .1) (c .log-at2 .ensures)
 
 pub log-into-spec : {M : Type 1} → statement M
 log-into-spec =
@@ -38,9 +45,11 @@ log-into-spec =
     (tie.spec
     enum-told
     enum-told-2
-    log-at-requires
     enum-told-3
+    log-at-requires
+    enum-told-4
     log-at-requires-2
     returns
     returns-2
-    returns-3)
+    returns-3
+    returns-4)

@@ -6,6 +6,9 @@ use borrow.Author.Needs.{needs}
 use Rattle.modulation.proofs.modulate.need_for.Statement.{statement}
 use Rattle.modulation.proofs.modulate.need_for.Tie as tie
 
+cast-ceiling : tie.Need-cast-ceiling
+cast-ceiling c = search needs
+
 mul-ceiling : tie.Need-mul-ceiling
 mul-ceiling c = search needs
 
@@ -19,4 +22,4 @@ returns : tie.Need-returns
 returns c = search needs
 
 pub need-for-spec : {M : Type 1} → statement M
-need-for-spec = tie.close (tie.spec mul-ceiling ceiling-requires add-result returns)
+need-for-spec = tie.close (tie.spec cast-ceiling mul-ceiling ceiling-requires add-result returns)

@@ -1,8 +1,8 @@
 -- `tx::pass_in` meets its contract: what is made is shared between the rest and `pending`, where the surplus has room. Assumes nothing.
 use Rattle.modulation.proofs.Sharing.{pass-into}
-use Rattle.modulation.proofs.Counts.{need-over, surplus}
+use Rattle.modulation.proofs.Counts.{surplus}
 use lib.ListN.{length}
-use mathlib.Core.Path.{sym}
+use mathlib.Core.Path.{sym, _∙_}
 use native.Mathlib.Omega.{arith}
 use lib.Seq.{length-take-le}
 use borrow.Author.Needs.{needs}
@@ -12,8 +12,7 @@ use Rattle.modulation.proofs.modulate.pass_in.Tie as tie
 make-requires : tie.Need-make-requires
 make-requires c κs =
     let z = c .before .before .before .before .before .before .before in
-    let up = z .pre .0 .1 in
-    (z .pre .0 .0, up .sound, omega (arith, z .pre .1 .0, z .pre .0 .2, need-over (z .args .s .rate) (length (z .args .rest .now)) (up .low)), rw (up .src, up .dst, z .pre .1 .0) (z .pre .1 .1))
+    (z .pre .0 .0, z .pre .0 .1 .sound)
 
 slice-reshare-prefix-share : tie.Need-slice-reshare-prefix-share
 slice-reshare-prefix-share c = search needs
@@ -28,7 +27,7 @@ share-requires c κs =
     let up = z .pre .0 .1 in
     let l = length-take-le (m .result .count) (m .last .1 .1 .1 .1 .1 .0) (m .ensures .within) in
     let s = surplus (z .args .s .rate) (length (z .args .rest .now)) (up .low) (up .high) in
-    (omega (arith, l, s, m .ensures .within, rw (up .src, up .dst, z .pre .1 .0) at (m .ensures .places)), z .pre .0 .3)
+    (omega (arith, l, s, m .ensures .within, m .kept .1 .1 .1 .1 .1 .0, z .pre .1 .1), z .pre .0 .3)
 
 sub-t25 : tie.Need-sub-t25
 sub-t25 c =
@@ -52,7 +51,7 @@ returns : tie.Need-returns
 returns c =
     let z = c .before .before .before .before .before .before .before .before .before .before .before .before .before .before .before .before .before .before .before .before .before .before in
     let m = c .before .before .before .before .before .before .before .before .before .before .before .before .before .before .make in
-    pass-into (z .args .s .rate) (z .args .s .tones) (z .args .s .amplitude) (z .args .bits .now) (z .args .w) _ (z .args .r) _ _ _ _ _ _ _ (z .pre .0 .1) (rw (z .pre .1 .0) at (m .ensures)) (c .before .before .before .before .before .before .share .ensures)
+    pass-into (z .args .s .rate) (z .args .s .tones) (z .args .s .amplitude) (z .args .bits .now) (z .args .w) _ (z .args .r) _ _ _ _ _ _ _ (z .pre .0 .1) (m .kept .1 .1 .1 .1 .1 .0 ∙ z .pre .1 .1) (rw (z .pre .1 .0) at (m .ensures)) (c .before .before .before .before .before .before .share .ensures)
 
 pub pass-in-spec : {M : Type 1} → statement M
 pass-in-spec =

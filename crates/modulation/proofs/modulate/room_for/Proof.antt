@@ -11,6 +11,9 @@ use Rattle.modulation.proofs.modulate.room_for.Tie as tie
 mul-nearest : tie.Need-mul-nearest
 mul-nearest c = omega (arith, mul-le-mul (c .pre .2) (c .pre .1))
 
+cast-nearest : tie.Need-cast-nearest
+cast-nearest c = search needs
+
 nearest-requires : tie.Need-nearest-requires
 nearest-requires c κs = search needs
 
@@ -21,4 +24,4 @@ returns : tie.Need-returns
 returns c = ap (λ x. x + 2) (c .nearest .ensures) ∙ sym (room-unequal _ _ (c .before .pre .0))
 
 pub room-for-spec : {M : Type 1} → statement M
-room-for-spec = tie.close (tie.spec mul-nearest nearest-requires add-result returns)
+room-for-spec = tie.close (tie.spec mul-nearest cast-nearest nearest-requires add-result returns)

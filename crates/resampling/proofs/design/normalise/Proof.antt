@@ -1,4 +1,5 @@
 -- `design::normalise` meets its contract. The invariant: the taps before i are divided, and those behind are as they came. Assumes nothing.
+use Rattle.resampling.specs.Design.{mostTaps}
 use Rattle.numeric.proofs.Loops.{map-turn, rest-turn, rest-first}
 use lib.Ieee.{nan}
 use native.Mathlib.Omega.{arith}
@@ -12,7 +13,7 @@ use Rattle.resampling.proofs.design.normalise.Statement.{statement}
 use Rattle.resampling.proofs.design.normalise.Tie as tie
 
 abbrev Inv-loop : tie.InvT-loop
-Inv-loop n sum out₀ i₀ out i = (i ≤ n) × (length out ≡ 373) × (take i out ≡ map (λ x. x ⊘ sum) (take i out₀)) × (drop i out ≡ drop i out₀)
+Inv-loop n sum out₀ i₀ out i = (i ≤ n) × (length out ≡ mostTaps) × (take i out ≡ map (λ x. x ⊘ sum) (take i out₀)) × (drop i out ≡ drop i out₀)
 
 abbrev μ-loop : tie.MeasureT-loop
 μ-loop n sum out₀ i₀ out i = n - i
@@ -42,7 +43,7 @@ loop-again : tie.Need-loop-again Inv-loop μ-loop
 loop-again c =
     let l = c .before .loop in
     let old = c .before .before .args .taps in
-    let k : length old ≡ 373 = search needs in
+    let k : length old ≡ mostTaps = search needs in
     let h = c .before .before .pre in (
       omega arith,
       simp length-set (l .inv .1),

@@ -6,13 +6,13 @@ use mathlib.Core.Path.{_≡_, refl, sym, _∙_, ap}
 use Prim.Native.Nat.{ℕ, _-_, _≤_}
 use lib.ListN.{length, take, length-set, length-replicate}
 use Rattle.numeric.specs.Fold.{tabulate}
-use Rattle.resampling.specs.Design.{rawTap, rawTaps}
+use Rattle.resampling.specs.Design.{rawTap, rawTaps, mostTaps}
 use borrow.Author.Needs.{needs}
 use Rattle.resampling.proofs.design.raw_taps.Statement.{statement}
 use Rattle.resampling.proofs.design.raw_taps.Tie as tie
 
 abbrev Inv-loop : tie.InvT-loop
-Inv-loop fs n taps₀ i₀ taps i = (i ≤ n) × (length taps ≡ 373) × (take i taps ≡ tabulate (rawTap fs) i)
+Inv-loop fs n taps₀ i₀ taps i = (i ≤ n) × (length taps ≡ mostTaps) × (take i taps ≡ tabulate (rawTap fs) i)
 
 abbrev μ-loop : tie.MeasureT-loop
 μ-loop fs n taps₀ i₀ taps i = n - i
@@ -21,7 +21,7 @@ zeros-requires : tie.Need-zeros-requires Inv-loop μ-loop
 zeros-requires c κs = search needs
 
 loop-holds : tie.Need-loop-holds Inv-loop μ-loop
-loop-holds c = (omega arith, ap length (c .zeros .ensures) ∙ length-replicate 373 zero64, refl)
+loop-holds c = (omega arith, ap length (c .zeros .ensures) ∙ length-replicate mostTaps zero64, refl)
 
 raw-tap-requires : tie.Need-raw-tap-requires Inv-loop μ-loop
 raw-tap-requires c κs = search needs

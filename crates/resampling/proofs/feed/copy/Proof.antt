@@ -1,6 +1,6 @@
 -- `feed::copy` meets its contract. The invariant: the output before i is the input's, and behind it as it came. Assumes nothing.
 use Rattle.numeric.proofs.Loops.{over-turn}
-use lib.Seq.{take-length}
+use Rattle.resampling.proofs.FlowLaws.{copied-all}
 use lib.Ieee.{nan}
 use native.Mathlib.Omega.{arith}
 use mathlib.Core.Path.{_≡_, refl, _∙_}
@@ -12,10 +12,13 @@ use Rattle.resampling.proofs.feed.copy.Statement.{statement}
 use Rattle.resampling.proofs.feed.copy.Tie as tie
 
 abbrev Inv-loop : tie.InvT-loop
-Inv-loop input output₀ i₀ output i = (output ≡ take i input ++ drop i output₀) × (length output ≡ length output₀) × (i ≤ length input)
+Inv-loop input output₀ n i₀ output i = (output ≡ take i input ++ drop i output₀) × (length output ≡ length output₀) × (i ≤ n)
 
 abbrev μ-loop : tie.MeasureT-loop
-μ-loop input output₀ i₀ output i = length input - i
+μ-loop input output₀ n i₀ output i = n - i
+
+smaller-requires : tie.Need-smaller-requires Inv-loop μ-loop
+smaller-requires c κs = search needs
 
 loop-holds : tie.Need-loop-holds Inv-loop μ-loop
 loop-holds c = (refl, refl, omega arith)
@@ -41,7 +44,7 @@ loop-less c = search needs
 loop-again : tie.Need-loop-again Inv-loop μ-loop
 loop-again c =
     let l = c .before .before .loop in
-    (rw (l .inv .0) (over-turn _ _ _ nan (c .before .loop-test .taken) (omega arith)), simp length-set (l .inv .1), omega arith)
+    (rw (l .inv .0) (over-turn _ _ (l .i) nan (search needs) (search needs)), simp length-set (l .inv .1), omega arith)
 
 same-length : tie.Need-same-length Inv-loop μ-loop
 same-length c = search needs
@@ -49,8 +52,9 @@ same-length c = search needs
 returns : tie.Need-returns Inv-loop μ-loop
 returns c =
     let l = c .before .loop in
-    let e : l .i ≡ length (c .before .before .args .input .now) = omega arith in
-    l .inv .0 ∙ rw (e, take-length)
+    let s = c .before .before .smaller in
+    let e : l .i ≡ s .result = omega arith in
+    rw (l .inv .0, e) (copied-all _ _ _ (s .ensures .0))
 
 pub copy-spec : {M : Type 1} → statement M
 copy-spec =
@@ -58,6 +62,7 @@ copy-spec =
     (tie.spec
     Inv-loop
     μ-loop
+    smaller-requires
     loop-holds
     mul-output
     shared-slice-read-output

@@ -1,4 +1,5 @@
 -- `numbers::cleared` meets its contract. The invariant: the first i are the first n and then 0.0. Assumes nothing.
+use Rattle.resampling.specs.Design.{mostTaps}
 use Rattle.resampling.proofs.NumberLaws.{clear-start, clear-step, clear-end}
 use native.Mathlib.Omega.{arith}
 use native.Mathlib.Nat.{le-refl}
@@ -12,10 +13,10 @@ use Rattle.resampling.proofs.numbers.cleared.Statement.{statement}
 use Rattle.resampling.proofs.numbers.cleared.Tie as tie
 
 abbrev Inv-loop : tie.InvT-loop
-Inv-loop n a₀ i₀ a i = (n ≤ i) × (i ≤ 373) × (length a ≡ length a₀) × (take i a ≡ take n a₀ ++ replicate (i - n) zero64)
+Inv-loop n a₀ i₀ a i = (n ≤ i) × (i ≤ mostTaps) × (length a ≡ length a₀) × (take i a ≡ take n a₀ ++ replicate (i - n) zero64)
 
 abbrev μ-loop : tie.MeasureT-loop
-μ-loop n a₀ i₀ a i = 373 - i
+μ-loop n a₀ i₀ a i = mostTaps - i
 
 loop-holds : tie.Need-loop-holds Inv-loop μ-loop
 loop-holds c = (le-refl _, c .pre, refl, clear-start (c .args .xs) (c .args .n))
@@ -36,13 +37,13 @@ loop-again : tie.Need-loop-again Inv-loop μ-loop
 loop-again c =
     let l = c .before .loop in
     let t = c .loop-test .taken in
-    let n : length (c .before .before .args .xs) ≡ 373 = search needs in
+    let n : length (c .before .before .args .xs) ≡ mostTaps = search needs in
     (omega arith, omega (arith, t), rw length-set (l .inv .2), clear-step (c .before .before .args .xs) (l .a) (c .before .before .args .n) (l .i) (l .inv .0) (omega (arith, t, l .inv .2, n)) (l .inv .3))
 
 returns : tie.Need-returns Inv-loop μ-loop
 returns c =
     let l = c .before .loop in
-    let n : length (c .before .before .args .xs) ≡ 373 = search needs in
+    let n : length (c .before .before .args .xs) ≡ mostTaps = search needs in
     clear-end (c .before .before .args .xs) _ (c .before .before .args .n) (l .i) (omega (arith, c .loop-test .left)) (l .inv .2 ∙ n) (l .inv .3)
 
 pub cleared-spec : {M : Type 1} → statement M

@@ -1,4 +1,5 @@
 -- `numbers::newest_first` meets its contract. The invariant: what is copied, and then the rest of the ring, is the history. Assumes nothing.
+use Rattle.resampling.specs.Design.{mostTaps}
 use Rattle.resampling.proofs.NumberLaws.{newest-start, newest-step, newest-end}
 use native.Mathlib.Omega.{arith}
 use Rattle.resampling.specs.FilterRep.{ringBack, walk, historyOf}
@@ -13,7 +14,7 @@ use Rattle.resampling.proofs.numbers.newest_first.Statement.{statement}
 use Rattle.resampling.proofs.numbers.newest_first.Tie as tie
 
 abbrev Inv-loop : tie.InvT-loop
-Inv-loop n pos ring a₀ idx₀ i₀ a idx i = (i ≤ n) × (length a ≡ 373) × (0 < n → idx < n) × (take i a ++ walk (n - i) n (ringBack n idx) ring ≡ historyOf n pos ring)
+Inv-loop n pos ring a₀ idx₀ i₀ a idx i = (i ≤ n) × (length a ≡ mostTaps) × (0 < n → idx < n) × (take i a ++ walk (n - i) n (ringBack n idx) ring ≡ historyOf n pos ring)
 
 abbrev μ-loop : tie.MeasureT-loop
 μ-loop n pos ring a₀ idx₀ i₀ a idx i = n - i
@@ -22,7 +23,7 @@ zeros-requires : tie.Need-zeros-requires Inv-loop μ-loop
 zeros-requires c κs = search needs
 
 loop-holds : tie.Need-loop-holds Inv-loop μ-loop
-loop-holds c = (zero-le, rw (c .zeros .ensures) (length-replicate {A = Float} 373 zero64), c .before .pre .1, newest-start (c .before .args .n) (c .before .args .pos) (c .before .args .t1))
+loop-holds c = (zero-le, rw (c .zeros .ensures) (length-replicate {A = Float} mostTaps zero64), c .before .pre .1, newest-start (c .before .args .n) (c .before .args .pos) (c .before .args .t1))
 
 ring-back-requires : tie.Need-ring-back-requires Inv-loop μ-loop
 ring-back-requires c κs = c .before .loop .inv .2 (omega (arith, c .loop-test .taken))

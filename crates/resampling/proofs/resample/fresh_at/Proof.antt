@@ -1,4 +1,5 @@
 -- `resample::fresh_at` meets its contract: an array of zeros is a history of zeros, and the taps are the design's. Assumes nothing.
+use Rattle.resampling.specs.Design.{mostTaps}
 use Rattle.numeric.specs.F64.{zero64}
 use mathlib.Core.Path.{_≡_, refl, ap, _∙_}
 use lib.ListN.{length, take, length-replicate}
@@ -32,7 +33,7 @@ returns c =
     let s = c .before .before .before .before .before .before in
     let f = c .before .before .before .before .before .faster-of .ensures .0 in
     let z = c .before .before .zeros .ensures in
-    let long : length (t .result .taps) ≡ 373 = search needs in
+    let long : length (t .result .taps) ≡ mostTaps = search needs in
     let are : take (t .result .n) (t .result .taps) ≡ tapsOf (s .args .src-rate) (s .args .dst-rate) = rw (← f) (t .ensures .are) in (
       rw z (fresh-is (s .args .src-rate) (s .args .dst-rate) (t .result .n) (t .result .taps) (t .ensures .high) long are),
       record {
@@ -43,7 +44,7 @@ returns c =
         high = t .ensures .high;
         taps = are;
         taps-long = long;
-        ring-long = ap length z ∙ length-replicate 373 zero64;
+        ring-long = ap length z ∙ length-replicate mostTaps zero64;
         place = t .ensures .some;
       },
     )

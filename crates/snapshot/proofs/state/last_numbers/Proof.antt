@@ -46,7 +46,7 @@ unfolding inFloat
 int-to-float-t15 c = omega (arith, le→leb, c .before .before .before .before .before .before .before .before .before .accepted .ensures .1)
 
 returns : tie.Need-returns
-returns c = rw (c .before .before .before .before .before .before .block-number .ensures, c .before .before .before .before .before .one-or-zero .ensures, c .before .before .before .before .one-or-zero2 .ensures, c .before .before .before .one-or-zero3 .ensures, c .before .before .before .before .before .before .before .before .before .before .before .waiting .ensures .0, c .before .before .before .before .before .before .before .before .before .before .events-waiting .ensures .0, c .before .before .before .before .before .before .before .before .before .accepted .ensures .0, c .before .before .before .before .before .before .before .before .before .before .before .before .core .ensures, c .before .before .before .before .before .before .before .before .before .before .before .before .before .demodulator .ensures .0)
+returns c = rw (c .before .before .before .before .before .before .block-number .ensures, c .before .before .before .before .before .one-or-zero .ensures, c .before .before .before .before .one-or-zero2 .ensures, c .before .before .before .one-or-zero3 .ensures, c .before .before .before .before .before .before .before .before .before .before .before .waiting .ensures .0, c .before .before .before .before .before .before .before .before .before .before .events-waiting .ensures .0, c .before .before .before .before .before .before .before .before .before .accepted .ensures .0, ← c .before .before .before .before .before .before .before .before .before .before .before .before .before .demodulator .ensures .0, c .before .before .before .before .before .before .before .before .before .before .before .before .core .ensures)
 
 pub last-numbers-spec : {M : Type 1} → statement M
 last-numbers-spec =

@@ -1,5 +1,5 @@
 -- A character more while there is room. Assumes nothing.
-use Rattle.tide.proofs.Bytewise.{longer-some, longer-none}
+use Rattle.tide.proofs.Moves.{longer-some, longer-none}
 use borrow.Author.Needs.{needs}
 use Rattle.tide.proofs.decoder.longer_line.Statement.{statement}
 use Rattle.tide.proofs.decoder.longer_line.Tie as tie

@@ -1,5 +1,5 @@
 -- Correlator, block and gate are each what their function ensures.
-use Rattle.demodulation.specs.Demod.{fedCore}
+use Rattle.demodulation.specs.Demod.{fed}
 use borrow.Author.Needs.{needs}
 use Rattle.demodulation.proofs.demod.Core.feed.Statement.{statement}
 use Rattle.demodulation.proofs.demod.Core.feed.Tie as tie
@@ -14,8 +14,8 @@ gate-after-requires : tie.Need-gate-after-requires
 gate-after-requires c κs = search needs
 
 returns : tie.Need-returns
-unfolding fedCore
-returns c = rw (c .gate-after .ensures, c .before .before .before .before .before .before .before .before .feed .ensures, c .before .before .before .before .before .before .before .before .before .advance .ensures)
+unfolding fed
+returns c rings = rw (c .gate-after .ensures, c .before .before .before .before .before .before .before .before .feed .ensures, c .before .before .before .before .before .before .before .before .before .advance .ensures)
 
 pub feed-spec : {M : Type 1} → statement M
 feed-spec = tie.close (tie.spec advance-requires feed-requires gate-after-requires returns)

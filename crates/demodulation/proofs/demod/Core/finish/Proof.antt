@@ -15,7 +15,7 @@ slice-requires c κs = search needs
 
 returns : tie.Need-returns
 unfolding finished
-returns c =
+returns c rings =
     rw (c .before .before .before .before .before .before .slice .ensures, c .before .before .before .before .before .before .before .before .tick .ensures, c .before .before .before .before .before .before .before .before .before .event-of .ensures)
 
 pub finish-spec : {M : Type 1} → statement M

@@ -1,5 +1,5 @@
 -- In the order of the code: each part is what its function ensures. `Core::feed` says whether the rings are filled.
-use mathlib.Core.Path.{_≡_, sym}
+use mathlib.Core.Path.{_≡_, sym, ap, _∙_}
 use mathlib.Core.Bool.{true, false}
 use native.Mathlib.Omega.{arith}
 use borrow.Author.Needs.{needs}
@@ -7,13 +7,13 @@ use borrow.Author.Tests.{not-true, not-false}
 use lib.Ieee.{Float}
 use Rattle.demodulation.specs.Carrier.{updated}
 use Rattle.demodulation.specs.Correlation.{magnitudeOf, decisionOf, multiplied}
-use Rattle.demodulation.specs.Demod.{latched, fedCore, finished, stepWith, stepOf}
+use Rattle.demodulation.specs.Demod.{Demodulator, latched, fed, finished, decoded, stepOf}
+use Rattle.demodulation.specs.DemodRep.{demodulator, stepWith}
 use Rattle.demodulation.proofs.DemodLaws.{step-waits, step-decodes}
 use Rattle.demodulation.specs.declared.carrier.CarrierDetector.{CarrierDetector}
 use Rattle.demodulation.specs.declared.demod.Core.{Core}
 use Rattle.demodulation.specs.declared.demod.CoreStep.{CoreStep}
 use Rattle.demodulation.specs.declared.correlator.Decision.{Decision}
-use Rattle.demodulation.specs.declared.demod.Demodulator.{Demodulator}
 use Rattle.demodulation.specs.declared.demod.Latch.{Latch}
 use Rattle.demodulation.specs.declared.correlator.Rings.{Rings}
 use Rattle.framing.specs.declared.frame.Heard.the-variants.{Waiting}
@@ -22,23 +22,22 @@ use Rattle.demodulation.proofs.SummingLaws.{summed-kept, tone-end}
 use Rattle.demodulation.proofs.demod.Core.step.Statement.{statement}
 use Rattle.demodulation.proofs.demod.Core.step.Tie as tie
 
-module _ (d : Demodulator) (s : Float) (r : Rings) (k : Core) where
-  waits : r ≡ multiplied (d .rings) (d .core .corr) s → k ≡ fedCore (d .core) s → k .corr .filled ≡ false
-      → stepWith r (record { core = k; heard = Waiting; event = Nothing }) ≡ stepOf d s
-  waits er ek e = rw (er, ek) (sym (step-waits d s (rw ek at e)))
+module _ (d : Demodulator) (s : Float) (r : Rings) (k : Core) (is : demodulator r k ≡ fed d s) where
+  waits : k .corr .filled ≡ false → stepWith r (record { core = k; heard = Waiting; event = Nothing }) ≡ stepOf d s
+  waits e = rw is (sym (step-waits d s (ap (λ (x : Demodulator). x .corr .filled) (sym is) ∙ e)))
 
   decodes : (m n : Float) (o : Decision) (carrier : CarrierDetector) (latch : Latch) (x : CoreStep)
-      → r ≡ multiplied (d .rings) (d .core .corr) s
-      → k ≡ fedCore (d .core) s
       → k .corr .filled ≡ true
       → m ≡ magnitudeOf (r .«mark_i») (r .«mark_q»)
       → n ≡ magnitudeOf (r .«space_i») (r .«space_q»)
       → o ≡ decisionOf m n
       → carrier ≡ updated (k .carrier) (o .energy)
       → latch ≡ latched (k .latch) (k .«gate_open») (carrier .detected)
-      → x ≡ finished k carrier latch (o .soft)
+      → stepWith r x ≡ finished (demodulator r k) carrier latch (o .soft)
       → stepWith r x ≡ stepOf d s
-  decodes m n o carrier latch x er ek e em en eo ec el ex = rw (ex, el, ec, eo, en, em, ek, er) (sym (step-decodes d s (rw ek at e)))
+  decodes m n o carrier latch x e em en eo ec el ex =
+      let here : stepWith r x ≡ decoded (demodulator r k) = rw (ex, el, ec, eo, en, em) in
+      here ∙ ap decoded is ∙ sym (step-decodes d s (ap (λ (x : Demodulator). x .corr .filled) (sym is) ∙ e))
 
 waves-requires : tie.Need-waves-requires
 waves-requires c κs = search needs
@@ -58,7 +57,7 @@ returns c =
     let n = f .before in
     let m = n .before .before .before in
     let w = m .before .before .before .waves .ensures in
-    waits _ _ _ _ (rw (n .multiply2 .ensures .1, n .multiply2 .ensures .0, m .multiply .ensures .1, m .multiply .ensures .0, w .0, w .1, w .2, w .3)) (f .feed .ensures)
+    waits _ _ _ _ (rw (n .multiply2 .ensures .1, n .multiply2 .ensures .0, m .multiply .ensures .1, m .multiply .ensures .0, w .0, w .1, w .2, w .3) (f .feed .ensures _))
     (not-true (f .feed .result .corr .filled) (c .if1 .taken))
 
 sums-on-requires : tie.Need-sums-on-requires
@@ -99,10 +98,10 @@ returns-2 c =
     let n = f .before in
     let m = n .before .before .before in
     let w = m .before .before .before .waves .ensures in
-    decodes _ _ _ _ _ _ _ _ _ _ (rw (n .multiply2 .ensures .1, n .multiply2 .ensures .0, m .multiply .ensures .1, m .multiply .ensures .0, w .0, w .1, w .2, w .3)) (f .feed .ensures)
+    decodes _ _ _ _ (rw (n .multiply2 .ensures .1, n .multiply2 .ensures .0, m .multiply .ensures .1, m .multiply .ensures .0, w .0, w .1, w .2, w .3) (f .feed .ensures _)) _ _ _ _ _ _
     (not-false (f .feed .result .corr .filled) (i .if1 .left)) (tone-end _ _ _ _ _ (t .mark-i) (t .mark-q) (y .roots .ensures .0))
     (tone-end _ _ _ _ _ (t .space-i) (t .space-q) (y .roots .ensures .1)) (o .decide .ensures) (u .update .ensures)
-    (c .before .see .ensures) (c .finish .ensures)
+    (c .before .see .ensures) (c .finish .ensures _)
 
 pub step-spec : {M : Type 1} → statement M
 step-spec =

@@ -6,7 +6,7 @@ use Rattle.modem.proofs.rx.Rx.accepted.Tie as tie
 
 returns : tie.Need-returns
 unfolding receiverOf
-returns c = (refl, c .pre .count)
+returns c = (refl, c .pre .listener .count)
 
 pub accepted-spec : {M : Type 1} → statement M
 accepted-spec = tie.close (tie.spec returns)

@@ -1,34 +1,30 @@
--- `Rx::new` meets its contract: the test of the rate is the definition's. Assumes nothing.
-use Rattle.modem.specs.Rx.{newOf}
-use Rattle.refusal.specs.Refusals.{rateRefused}
-use mathlib.Core.Bool.{not}
-use mathlib.Core.Path.{refl, sym, ap, _∙_}
+-- By the contracts of its parts. Assumes nothing.
+use Rattle.modem.specs.Rx.{freshReceiver}
+use Rattle.modem.proofs.RxCalls.{new-is}
+use Rattle.modem.specs.RxRep.{receiverOf}
 use borrow.Author.Needs.{needs}
 use Rattle.modem.proofs.rx.Rx.new.Statement.{statement}
 use Rattle.modem.proofs.rx.Rx.new.Tie as tie
 
-rate-ok-requires : tie.Need-rate-ok-requires
-rate-ok-requires c κs = search needs
+new-requires : tie.Need-new-requires
+new-requires c κs = search needs
 
-fresh-at-requires : tie.Need-fresh-at-requires
-fresh-at-requires c κs = sym (c .before .rate-ok .ensures) ∙ ap not (c .if1 .taken)
+new-requires-2 : tie.Need-new-requires-2
+new-requires-2 c κs = search needs
+
+new-requires-3 : tie.Need-new-requires-3
+new-requires-3 c κs = search needs
 
 returns : tie.Need-returns
-unfolding newOf
+unfolding receiverOf freshReceiver
 returns c =
-    let e = sym (c .before .before .rate-ok .ensures) ∙ ap not (c .before .if1 .taken) in
-    (rw (e, c .fresh-at .ensures .0), c .fresh-at .ensures .1)
-
-fresh-at-requires-2 : tie.Need-fresh-at-requires-2
-unfolding rateRefused
-fresh-at-requires-2 c κs = refl
-
-returns-2 : tie.Need-returns-2
-unfolding newOf
-returns-2 c =
-    let e = sym (c .before .before .rate-ok .ensures) ∙ ap not (c .before .if1 .left) in
-    (rw (e, c .fresh-at2 .ensures .0), c .fresh-at2 .ensures .1)
+    let s = c .before .before .before .before in
+    let o = c .before .before .before .new .ensures in
+    let b = c .before .new2 .ensures in
+    let e = c .new3 .ensures in (
+      rw (new-is (s .args .rate) (s .args .role), o .answer, o .fresh .demod, o .fresh .accepted, b .waits, e .waits),
+      record { listener = o .fresh .sound; bytes = b .sound; events = e .sound },
+    )
 
 pub new-spec : {M : Type 1} → statement M
-new-spec =
-    tie.close (tie.spec rate-ok-requires fresh-at-requires returns fresh-at-requires-2 returns-2)
+new-spec = tie.close (tie.spec new-requires new-requires-2 new-requires-3 returns)

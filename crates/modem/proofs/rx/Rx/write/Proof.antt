@@ -17,8 +17,8 @@ check-requires c κs = search needs
 is-accepted-requires : tie.Need-is-accepted-requires
 is-accepted-requires c κs = search needs
 
-accept-requires : tie.Need-accept-requires
-accept-requires c κs =
+accept-all-requires : tie.Need-accept-all-requires
+accept-all-requires c κs =
     let s = c .before .before .before .before in
     let t = sym (c .before .is-accepted .ensures) ∙ c .if1 .taken in
     (s .pre, accepted-none (c .before .before .check .result) _ (c .before .before .check .ensures) t)
@@ -30,8 +30,8 @@ returns c =
     let r = s .args .self in
     let t = sym (c .before .before .is-accepted .ensures) ∙ c .before .if1 .taken in
     let n = queued-length (r .out) (s .pre .bytes) in
-    let e = c .before .before .before .check .ensures ∙ ap (λ (k : ℕ). replyOf (refusedBy (s .args .samples .now) (r .accepted) k)) (sym n) in
-    (rw (c .accept .ensures .0) (went-through (receiverOf r) (s .args .samples .now) (c .before .before .before .check .result) e t), c .accept .ensures .1)
+    let e = c .before .before .before .check .ensures ∙ ap (λ (k : ℕ). replyOf (refusedBy (s .args .samples .now) (r .listener .accepted) k)) (sym n) in
+    (rw (c .accept-all .ensures .0) (went-through (receiverOf r) (s .args .samples .now) (c .before .before .before .check .result) e t), c .accept-all .ensures .1)
 
 returns-2 : tie.Need-returns-2
 unfolding receiverOf
@@ -40,9 +40,9 @@ returns-2 c =
     let r = s .args .self in
     let t = sym (c .before .is-accepted .ensures) ∙ c .if1 .left in
     let n = queued-length (r .out) (s .pre .bytes) in
-    let e = c .before .before .check .ensures ∙ ap (λ (k : ℕ). replyOf (refusedBy (s .args .samples .now) (r .accepted) k)) (sym n) in
+    let e = c .before .before .check .ensures ∙ ap (λ (k : ℕ). replyOf (refusedBy (s .args .samples .now) (r .listener .accepted) k)) (sym n) in
     (stopped (receiverOf r) (s .args .samples .now) (c .before .before .check .result) e t, s .pre)
 
 pub write-spec : {M : Type 1} → statement M
 write-spec =
-    tie.close (tie.spec check-requires is-accepted-requires accept-requires returns returns-2)
+    tie.close (tie.spec check-requires is-accepted-requires accept-all-requires returns returns-2)

@@ -1,6 +1,7 @@
 -- `Resampler::reset` meets its contract: a cleared state is a fresh one. Assumes nothing.
 use Prim.Native.Nat.{zero-le}
 use native.Mathlib.Nat.{lt-of-le-of-lt}
+use Rattle.resampling.specs.Design.{mostTaps}
 use Rattle.numeric.specs.F64.{zero64}
 use mathlib.Core.Path.{ap, _∙_}
 use lib.ListN.{length, length-replicate}
@@ -30,7 +31,7 @@ returns c =
         high = p .high;
         taps = p .taps;
         taps-long = p .taps-long;
-        ring-long = ap length z ∙ length-replicate 373 zero64;
+        ring-long = ap length z ∙ length-replicate mostTaps zero64;
         place = λ e. lt-of-le-of-lt zero-le (p .place e);
       },
     )

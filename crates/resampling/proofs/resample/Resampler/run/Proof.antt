@@ -1,28 +1,46 @@
--- `Resampler::run` meets its contract: the filter is the definition's, and what it makes stands at the front of the output. Assumes nothing.
+-- `Resampler::run` meets its contract: equal rates copy; else the filter is the definition's, and what it makes stands at the front of the
+-- output. Assumes nothing.
 use mathlib.Core.Path.{sym, _∙_}
 use Rattle.resampling.specs.ResampleRep.{stateOf}
 use Rattle.resampling.specs.FlowRep.{flowOf}
-use Rattle.resampling.proofs.Answers.{ran-into, filter-is}
+use Rattle.resampling.proofs.Answers.{copied-into, ran-into, filter-is}
 use borrow.Author.Needs.{needs}
 use Rattle.resampling.proofs.resample.Resampler.run.Statement.{statement}
 use Rattle.resampling.proofs.resample.Resampler.run.Tie as tie
 
-feed-requires : tie.Need-feed-requires
-feed-requires c κs =
-    let p = c .before .before .before .before .before .before .before .before .pre in
-    record { within = p .0 .place (p .1); high = p .0 .high; taps-long = p .0 .taps-long; ring-long = p .0 .ring-long }
+copy-requires : tie.Need-copy-requires
+copy-requires c κs = search needs
 
 same-length : tie.Need-same-length
 same-length c = search needs
 
 returns : tie.Need-returns
-unfolding stateOf flowOf
+unfolding stateOf
 returns c =
-    let s = c .before .before .before .before .before .before .before .before .before .before .before .before in
-    let p = s .pre .0 in
+    let s = c .before .before .before .before .before .before .before in
+    (copied-into _ _ _ _ _ (sym (s .pre .identity) ∙ c .before .before .before .before .if1 .taken) (c .before .before .copy .ensures), s .pre)
+
+feed-requires : tie.Need-feed-requires
+feed-requires c κs =
+    let p = c .before .before .before .before .before .before .before .before .before .pre in
+    record {
+      within = p .place (c .before .before .before .before .before .before .if1 .left);
+      high = p .high;
+      taps-long = p .taps-long;
+      ring-long = p .ring-long;
+    }
+
+same-length-2 : tie.Need-same-length-2
+same-length-2 c = search needs
+
+returns-2 : tie.Need-returns-2
+unfolding stateOf flowOf
+returns-2 c =
+    let s = c .before .before .before .before .before .before .before .before .before .before .before .before .before in
+    let p = s .pre in
     let r = s .args .self in
     let f = c .before .before .before .feed in (
-      ran-into (stateOf r) _ _ _ _ (filter-is r p) (sym (p .identity) ∙ s .pre .1) (f .ensures .0),
+      ran-into (stateOf r) _ _ _ _ (filter-is r p) (sym (p .identity) ∙ c .before .before .before .before .before .before .before .before .before .before .if1 .left) (f .ensures .0),
       record {
         rates = p .rates;
         identity = p .identity;
@@ -37,4 +55,5 @@ returns c =
     )
 
 pub run-spec : {M : Type 1} → statement M
-run-spec = tie.close (tie.spec feed-requires same-length returns)
+run-spec =
+    tie.close (tie.spec copy-requires same-length returns feed-requires same-length-2 returns-2)

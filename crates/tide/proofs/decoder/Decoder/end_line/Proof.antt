@@ -4,7 +4,7 @@ use lib.Seq.{length-take-le}
 use native.Mathlib.Omega.{arith}
 use Rattle.tide.specs.Judge.{Verdict}
 use Rattle.tide.proofs.DecoderLaws.{judge-answers}
-use Rattle.tide.proofs.Bytewise.{stepped-end}
+use Rattle.tide.proofs.Moves.{stepped-end}
 use borrow.Author.Needs.{needs}
 use Rattle.tide.proofs.decoder.Decoder.end_line.Statement.{statement}
 use Rattle.tide.proofs.decoder.Decoder.end_line.Tie as tie

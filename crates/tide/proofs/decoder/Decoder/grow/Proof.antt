@@ -1,5 +1,5 @@
 -- The line is what `longer_line` ensures. Assumes nothing.
-use Rattle.tide.proofs.Bytewise.{stepped-on}
+use Rattle.tide.proofs.Moves.{stepped-on}
 use borrow.Author.Needs.{needs}
 use Rattle.tide.proofs.decoder.Decoder.grow.Statement.{statement}
 use Rattle.tide.proofs.decoder.Decoder.grow.Tie as tie
@@ -10,7 +10,7 @@ longer-line-requires c κs = search needs
 returns : tie.Need-returns
 returns c =
     let b = c .before .before .before in
-    stepped-on _ _ _ (b .pre .0) (b .pre .1) (c .longer-line .ensures .0) (c .longer-line .ensures .1)
+    stepped-on _ _ _ (b .pre) (c .longer-line .ensures .0) (c .longer-line .ensures .1)
 
 pub grow-spec : {M : Type 1} → statement M
 grow-spec = tie.close (tie.spec longer-line-requires returns)
