@@ -1,25 +1,13 @@
 // With the feature `port`: links the port's static library, which
 // `rt staticlib ffi` writes to ../target/staticlib/libffi.a, or the one that
-// MORKHETTA_LIB names. Sets `receiver`, `state`, `sender` and `board` where the other
-// side exports it.
+// MORKHETTA_LIB names. That may be a shared one, which is looked for again when
+// the program starts (`slips.sh`).
 
 use std::path::{Path, PathBuf};
 
 fn main() {
     println!("cargo:rerun-if-env-changed=MORKHETTA_LIB");
-    let port = std::env::var_os("CARGO_FEATURE_PORT").is_some();
-    for (cfg, feature) in [
-        ("receiver", "CARGO_FEATURE_PORT_RECEIVER"),
-        ("state", "CARGO_FEATURE_PORT_STATE"),
-        ("sender", "CARGO_FEATURE_PORT_SEND"),
-        ("board", "CARGO_FEATURE_PORT_BOARD"),
-    ] {
-        println!("cargo:rustc-check-cfg=cfg({cfg})");
-        if !port || std::env::var_os(feature).is_some() {
-            println!("cargo:rustc-cfg={cfg}");
-        }
-    }
-    if !port {
+    if std::env::var_os("CARGO_FEATURE_PORT").is_none() {
         return;
     }
     let library = library();
@@ -30,7 +18,8 @@ fn main() {
     );
     println!("cargo:rerun-if-changed={}", library.display());
     println!("cargo:rustc-link-search=native={}", library.parent().unwrap().display());
-    println!("cargo:rustc-link-lib=static={}", name_of(&library));
+    let (name, kind) = name_and_kind(&library);
+    println!("cargo:rustc-link-lib={kind}={name}");
 }
 
 fn library() -> PathBuf {
@@ -40,11 +29,13 @@ fn library() -> PathBuf {
     Path::new(&here).join(path)
 }
 
-/// `ffi` for `libffi.a`.
-fn name_of(library: &Path) -> &str {
-    library
-        .file_name()
-        .and_then(|name| name.to_str())
-        .and_then(|name| name.strip_prefix("lib")?.strip_suffix(".a"))
-        .expect("a static library is named libNAME.a")
+/// `ffi` and `static` for `libffi.a`; `dylib` for `libNAME.so`.
+fn name_and_kind(library: &Path) -> (&str, &str) {
+    let name = library.file_name().and_then(|name| name.to_str()).unwrap_or_default();
+    let stem = name.strip_prefix("lib").and_then(|name| name.split_once('.'));
+    match stem {
+        Some((name, "a")) => (name, "static"),
+        Some((name, "so")) => (name, "dylib"),
+        _ => panic!("{name}: a library is named libNAME.a or libNAME.so"),
+    }
 }

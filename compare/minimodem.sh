@@ -2,21 +2,23 @@
 # Has the port hear another implementation of Bell 103, and be heard by it.
 # minimodem renders a text, sox resamples it, and the program `replay` hears it.
 # Every byte must be there, and nothing else; and the original must answer each
-# write alike. Then the sender sends the text at each rate, and minimodem must
-# hear it: the port's sender with FEATURES=port-send, else the original's.
-# Needs the Debian packages minimodem, sox and xxd, cargo, and `rt check replay`
-# run before. Takes about a minute; minimodem sends its idle carrier in real time.
+# write alike. Then the program `send` sends the text at each rate, and minimodem
+# must hear it, behind the training character and the line end of a call.
+# Needs the Debian packages minimodem, sox and xxd, cargo, and in the root
+# `rt check replay send` and `rt staticlib ffi` run before. Takes about a minute;
+# minimodem sends its idle carrier in real time.
 cd "$(dirname "$0")" || exit 2
-replay=../target/bin/replay
+replay=../target/bin/replay send=../target/bin/send
 folder=$(mktemp -d) || exit 2
 trap 'rm -r "$folder"' EXIT
-cargo build --release --quiet --features "$FEATURES" || exit 2
-printf 'CQ CQ 0123456789 the quick brown fox jumps over the lazy dog\n01010D000700C0000005019C88\n' >"$folder/sent"
+cargo build --release --quiet --features port || exit 2
+printf 'CQ CQ 0123456789 the quick brown fox jumps over the lazy dog\n01010D000700C0000005019C88\n' >"$folder/text"
+{ printf 'U\n'; cat "$folder/text"; } >"$folder/call"
 failed=0
 
 # render MARK SPACE RATE FILE: idle carrier, the text, idle carrier.
 render() {
-    (sleep 0.5; cat "$folder/sent"; sleep 0.3) |
+    (sleep 0.5; cat "$folder/text"; sleep 0.3) |
         minimodem --tx --tx-carrier --quiet --volume 0.5 --float-samples \
             --mark "$1" --space "$2" --samplerate "$3" --file "$4" 300
 }
@@ -29,20 +31,20 @@ hear() {
     sed -n 's/.*, bytes\(.*\), events.*/\1/p' "$folder/heard" | tr -d ' \n' | xxd -r -p >"$folder/bytes"
     like=differs
     cmp -s "$folder/heard" "$folder/stdout" && like=equal
-    if cmp -s "$folder/sent" "$folder/bytes" && [ $like = equal ]; then
-        echo "$4, heard at $2: all $(wc -c <"$folder/sent") bytes, original $like"
+    if cmp -s "$folder/text" "$folder/bytes" && [ $like = equal ]; then
+        echo "$4, heard at $2: all $(wc -c <"$folder/text") bytes, original $like"
     else
         echo "$4, heard at $2: NOT AS SENT, original $like"
         failed=$((failed + 1))
     fi
 }
 
-# said MARK SPACE RATE ROLE
-said() {
-    target/release/compare say "$folder/sent" "$3" "$4" >"$folder/said.wav" || exit 2
-    minimodem --rx --quiet --mark "$1" --space "$2" --file "$folder/said.wav" 300 >"$folder/bytes"
-    if cmp -s "$folder/sent" "$folder/bytes"; then
-        echo "$1/$2, sent at $3: all $(wc -c <"$folder/sent") bytes heard by minimodem"
+# sent MARK SPACE RATE ROLE
+sent() {
+    "$send" "$4" "$3" <"$folder/text" >"$folder/sent.wav" || exit 2
+    minimodem --rx --quiet --mark "$1" --space "$2" --file "$folder/sent.wav" 300 >"$folder/bytes"
+    if cmp -s "$folder/call" "$folder/bytes"; then
+        echo "$1/$2, sent at $3: all $(wc -c <"$folder/call") bytes heard by minimodem"
     else
         echo "$1/$2, sent at $3: NOT AS SENT"
         failed=$((failed + 1))
@@ -50,7 +52,7 @@ said() {
 }
 
 # Role 1 answers, and hears the tones of the end that dials; role 0 the others.
-for tones in "1270 1070 1" "2225 2025 0"; do
+for tones in "1270 1070 1 originate" "2225 2025 0 answer"; do
     set -- $tones
     for rate in 8000 48000; do
         render "$1" "$2" $rate "$folder/$rate.wav"
@@ -62,7 +64,7 @@ for tones in "1270 1070 1" "2225 2025 0"; do
         hear "$folder/other.wav" $rate "$3" "$1/$2, rendered at 48000"
     done
     for rate in 8000 8001 9999 11025 16000 22050 32000 44100 47999 48000; do
-        said "$1" "$2" $rate $((1 - $3))
+        sent "$1" "$2" $rate "$4"
     done
 done
 echo "$failed not as sent"

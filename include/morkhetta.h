@@ -83,6 +83,34 @@ size_t morkhetta_resample(
     uint64_t *answers, size_t answers_len
 );
 
+/* A fresh resampler from src to dst, the calls of the script, and its state behind
+ * them, for comparisons bit for bit. The script has two numbers for each call,
+ * its kind and n (a last one that makes no whole call is passed over):
+ *
+ *   0  process of the next n samples of the input, as in morkhetta_resample
+ *   any other number: reset; n is passed over, and it is answered by 0 and 0
+ *
+ * Output and answers as in morkhetta_resample. Returns the number of calls run:
+ * those of the script, as long as the answers have room for two more numbers.
+ *
+ * The state's 753 numbers go to the front of `state`, if there is room for 753;
+ * where it is shorter nothing of it is written, where it is longer the rest is as
+ * it was. The order:
+ *
+ *   373  the taps, and 0.0 in the places that the rates do not use
+ *   373  the filter's history, newest first, and 0.0 likewise
+ *     7  window of four, oldest first; place; count; step
+ */
+size_t morkhetta_resampler_state(
+    uint32_t src,
+    uint32_t dst,
+    const double *input, size_t input_len,
+    const uint32_t *script, size_t script_len,
+    double *output, size_t output_len,
+    uint64_t *answers, size_t answers_len,
+    double *state, size_t state_len
+);
+
 /* A fresh receiver at the device rate `rate` and for the role 0 (the end that
  * dials) or any other number (the end that picks up), and the calls of the
  * script, as long as the answers have room for five more numbers. Returns the
@@ -149,6 +177,35 @@ size_t morkhetta_send(
     uint64_t *answers, size_t answers_len
 );
 
+/* A fresh sender, the calls of the script, and its state behind them, for
+ * comparisons bit for bit. Rate, role, data, script, samples, answers and the
+ * number returned as in morkhetta_send.
+ *
+ * The state's 4,921 numbers go to the front of `state`, if there is room for
+ * 4,921; where it is shorter nothing of it is written, where it is longer the
+ * rest is as it was. Whole numbers stand as themselves, mark and space as 1.0 and
+ * 0.0, an f32 as the f64 of its value. The order:
+ *
+ *    373  the resampler's taps, and 0.0 in the places that the rate does not use
+ *    373  its filter's history, newest first, and 0.0 likewise
+ *      7  window of four, oldest first; place; count; step
+ *      4  the oscillator's phase and its increment; how much of the symbol is
+ *         over; the bit that sounds
+ *      4  amplitude; samples given; bits that wait; samples that wait
+ *   4096  the bits that wait, oldest first, and 0.0 in the places behind them
+ *     64  the samples that were made and not yet read, oldest first, and 0.0
+ *         likewise
+ */
+size_t morkhetta_sender_state(
+    uint32_t rate,
+    uint32_t role,
+    const uint8_t *data, size_t data_len,
+    const uint64_t *script, size_t script_len,
+    float *samples, size_t samples_len,
+    uint64_t *answers, size_t answers_len,
+    double *state, size_t state_len
+);
+
 /* The state of a receiver behind all calls of a script, for comparisons bit for
  * bit: its 909 numbers at the front of `state`, the rest of which is as it was.
  * The calls are those of morkhetta_receive, with room for 512 bytes and 64
@@ -179,6 +236,37 @@ uint32_t morkhetta_receiver_state(
     const float *samples, size_t samples_len,
     const uint32_t *script, size_t script_len,
     double *state, size_t state_len
+);
+
+/* The frame of each byte: a space, the eight data bits lowest first, a mark; ten
+ * numbers of `bits`, 1 for mark and 0 for space. As many bytes as have room for
+ * ten more numbers. Returns how many these are; `bits` behind the last frame are
+ * as they were.
+ */
+size_t morkhetta_frame_bytes(
+    const uint8_t *bytes, size_t bytes_len,
+    uint8_t *bits, size_t bits_len
+);
+
+/* A deframer in any state, and one call of `push_bit` for each of the bits, 0 for
+ * space and any other number for mark. The state: in_frame 0 is idle, any other
+ * number in a frame; bit_count, the bits of the frame so far, and acc, the byte so
+ * far, are taken modulo 256; errors, the framing errors so far. Each bit is
+ * answered by six numbers:
+ *
+ *   1 and the byte where the bit yielded one, else 0 and 0
+ *   in a frame, 1 or 0; bit_count; acc; errors: the state behind the bit
+ *
+ * Returns the number of bits pushed: all, as long as the answers have room for
+ * six more numbers. Answers behind the last are as they were.
+ */
+size_t morkhetta_deframe(
+    uint32_t in_frame,
+    uint32_t bit_count,
+    uint32_t acc,
+    uint32_t errors,
+    const uint8_t *bits, size_t bits_len,
+    uint64_t *answers, size_t answers_len
 );
 
 /* Why a board of this rate and station is refused: 1 for a rate outside 8,000 to

@@ -5,7 +5,7 @@
 
 use crate::copy::Slip;
 
-pub const SLIPS: [Slip; 33] = [
+pub const SLIPS: [Slip; 37] = [
     Slip {
         name: "residue-wrapped",
         file: "rx.rs",
@@ -109,6 +109,12 @@ pub const SLIPS: [Slip; 33] = [
         new: "self.acc |= 128 >> self.bit_count;",
     },
     Slip {
+        name: "frame-highest-bit-first",
+        file: "frame.rs",
+        old: "bits[1 + i] = b & (1 << i) != 0;",
+        new: "bits[1 + i] = b & (128 >> i) != 0;",
+    },
+    Slip {
         name: "queue-drops-the-newest",
         file: "rx.rs",
         old: "                self.events.pop_front();\n            }",
@@ -157,6 +163,18 @@ pub const SLIPS: [Slip; 33] = [
         new: "        let mut out_i = 0;\n        self.herm_hist = [0.0; 4];\n",
     },
     Slip {
+        name: "reset-keeps-the-history",
+        file: "resample.rs",
+        old: "        for v in self.fir_hist.iter_mut() {\n            *v = 0.0;\n        }\n",
+        new: "",
+    },
+    Slip {
+        name: "reset-keeps-the-window",
+        file: "resample.rs",
+        old: "        self.herm_hist = [0.0; 4];\n        self.frac_pos = 0.0;\n",
+        new: "        self.frac_pos = 0.0;\n",
+    },
+    Slip {
         name: "amplitude-before-narrowing",
         file: "tx.rs",
         old: "let v = v as f32 * self.amplitude;",
@@ -179,6 +197,12 @@ pub const SLIPS: [Slip; 33] = [
         file: "tx.rs",
         old: "self.bits.pop_front().unwrap_or(true);",
         new: "self.bits.pop_front().unwrap_or(false);",
+    },
+    Slip {
+        name: "bit-that-sounds-forgotten",
+        file: "tx.rs",
+        old: "            .set_freq(if self.current { self.mark } else { self.space });\n",
+        new: "            .set_freq(if self.current { self.mark } else { self.space });\n        self.current = true;\n",
     },
     Slip {
         name: "retuned-before-the-sample",

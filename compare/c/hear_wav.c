@@ -3,8 +3,8 @@
  *     hear_wav FILE STATION ROLE
  *
  * FILE is a WAV recording with one channel, of 16-bit PCM or 32-bit floats, at
- * 8,000 to 48,000 samples a second. ROLE is the board's: 0 dials, any other
- * picks up; the board listens to the other end's tones.
+ * 8,000 to 48,000 samples a second. ROLE is the board's: `originate` or 0 dials,
+ * `answer` or 1 picks up; the board listens to the other end's tones.
  *
  * It prints one line with the reading, `R` with station, water minute and level
  * or `R` alone, and one line for each answer that lines got, with their number.
@@ -121,6 +121,27 @@ static struct recording read_wav(const char *name)
     return r;
 }
 
+/* The whole word is a decimal number up to `most`. */
+static unsigned long number(const char *word, unsigned long most, const char *words)
+{
+    unsigned long value = 0;
+    const char *c;
+    for (c = word; *c >= '0' && *c <= '9' && value <= most; c++)
+        value = 10 * value + (unsigned long)(*c - '0');
+    if (c == word || *c != '\0' || value > most)
+        fail(words);
+    return value;
+}
+
+static uint32_t role_of(const char *word)
+{
+    if (strcmp(word, "originate") == 0)
+        return 0;
+    if (strcmp(word, "answer") == 0)
+        return 1;
+    return (uint32_t)number(word, 1, "ROLE is originate or answer, 0 or 1");
+}
+
 static void print_shown(uint16_t station, const uint64_t *shown)
 {
     static const int answers[COUNTS] = {0, 11, 12, 13, 14, 15, 16, 17, 18, 19, 20, 34};
@@ -141,18 +162,18 @@ static void print_shown(uint16_t station, const uint64_t *shown)
 int main(int argc, char **argv)
 {
     struct recording r;
-    unsigned long station;
+    uint16_t station;
+    uint32_t role;
     size_t writes, run, i;
     uint32_t *lengths;
     uint64_t *answers, shown[SHOWN];
     int refused = 0;
     if (argc != 4)
         fail("usage: hear_wav FILE STATION ROLE");
-    station = strtoul(argv[2], NULL, 10);
-    if (station > 65535)
-        fail("no such station");
+    station = (uint16_t)number(argv[2], 65535, "STATION is a number from 1 to 65535");
+    role = role_of(argv[3]);
     r = read_wav(argv[1]);
-    if (morkhetta_board_refusal(r.rate, (uint16_t)station) != 0)
+    if (morkhetta_board_refusal(r.rate, station) != 0)
         fail("the rate is not from 8,000 to 48,000, or the station is 0");
 
     writes = (r.len + BLOCK - 1) / BLOCK;
@@ -160,8 +181,7 @@ int main(int argc, char **argv)
     answers = room(writes, ANSWERS * sizeof *answers);
     for (i = 0; i < writes; i++)
         lengths[i] = BLOCK;
-    run = morkhetta_listen(r.rate, (uint16_t)station, (uint32_t)strtoul(argv[3], NULL, 10),
-                           r.samples, r.len, lengths, writes,
+    run = morkhetta_listen(r.rate, station, role, r.samples, r.len, lengths, writes,
                            answers, ANSWERS * writes, shown, SHOWN);
     for (i = 0; i < run; i++)
         if (answers[ANSWERS * i] != 0) {
@@ -169,7 +189,7 @@ int main(int argc, char **argv)
                     (unsigned long long)answers[ANSWERS * i]);
             refused = 1;
         }
-    print_shown((uint16_t)station, shown);
+    print_shown(station, shown);
     free(answers);
     free(lengths);
     free(r.samples);

@@ -3,11 +3,10 @@
 //! they show after it.
 
 use crate::cases::{rate_of, Cut};
-use crate::judge;
 use crate::layout::*;
 use crate::lines::line;
-use crate::port;
 use crate::random::Random;
+use crate::side::{Side, ORIGINAL, PORT};
 use crate::signal::{Modulation, Tape, Tones, Wave};
 
 const UNTOUCHED: u64 = 777_777;
@@ -26,8 +25,6 @@ pub struct BoardCase {
     answers: usize,
     shown: usize,
 }
-
-type Listen = fn(u32, u16, u32, &[f32], &[u32], &mut [u64], &mut [u64]) -> usize;
 
 /// What one side answered.
 #[derive(PartialEq, Debug)]
@@ -80,11 +77,43 @@ impl BoardCase {
         BoardCase { rate, station, role, samples, lengths, answers, shown }
     }
 
-    fn run(&self, listen: Listen, writes: usize) -> Listened {
+    /// A line for each of the answers 0, 11 to 20 and 34, in writes of 1,000.
+    pub fn with_every_answer() -> BoardCase {
+        let lines: [&[u8]; COUNTS] = [
+            b"01010D000700C0000005019C88",
+            &[b'0'; 65],
+            b"01",
+            b"01010d000700c0000005019c88",
+            b"01010E000700C0000005019C87",
+            b"01010D000700C0000005019C89",
+            b"01000D000700C0000005019C89",
+            b"03020E000700C0000005019C5A2A",
+            b"01010D000800C0000005019C87",
+            b"01010D000700C00000FF019C8E",
+            b"01010D000700C00000058000A5",
+            b"01010D000700C0001015019C68",
+        ];
+        let tones = Tones::heard_by(ANSWER);
+        let (mark, space) = (tones.mark, tones.space);
+        let how = Modulation { mark, space, level: 0.4, offset: 0.0, wave: Wave::Sine };
+        let mut tape = Tape::new(8_000);
+        tape.preamble(how);
+        tape.bytes(how, b"\n");
+        for line in lines {
+            tape.bytes(how, &[line, b"\n"].concat());
+        }
+        tape.idle(how, 12);
+        let samples = tape.finish();
+        let lengths = vec![1_000; samples.len().div_ceil(1_000)];
+        let answers = JUDGED * lengths.len();
+        BoardCase { rate: 8_000, station: 7, role: ANSWER, samples, lengths, answers, shown: SHOWN }
+    }
+
+    fn run(&self, side: &Side, writes: usize) -> Listened {
         let mut answers = vec![UNTOUCHED; self.answers];
         let mut shown = vec![UNTOUCHED; self.shown];
         let lengths = &self.lengths[..writes];
-        let writes = listen(
+        let writes = (side.listen)(
             self.rate,
             self.station,
             self.role,
@@ -101,7 +130,7 @@ impl BoardCase {
     /// it is compared too.
     pub fn seen(&self) -> Result<Seen, String> {
         let mut seen = Seen::default();
-        let whole = self.run(judge::listen, self.lengths.len());
+        let whole = self.run(&ORIGINAL, self.lengths.len());
         let told = whole.answers.chunks_exact(JUDGED).take(whole.writes);
         let every = self.samples.len() * whole.writes < EVERY_WRITE;
         let ends = told.clone().enumerate().filter(|(_, a)| every || a[2] > 0);
@@ -109,7 +138,7 @@ impl BoardCase {
         stops.extend([0, 1.min(self.lengths.len()), self.lengths.len()]);
         seen.every += usize::from(every);
         for writes in stops {
-            let (a, b) = (self.run(judge::listen, writes), self.run(port::listen, writes));
+            let (a, b) = (self.run(&ORIGINAL, writes), self.run(&PORT, writes));
             seen.stops += 1;
             if a != b {
                 return Err(format!(

@@ -85,7 +85,6 @@ pub struct Heard {
     pub bytes: Vec<u8>,
     pub events: Vec<u8>,
     pub answers: Vec<u64>,
-    /// Empty where the side does not export it.
     pub state: Vec<f64>,
 }
 
@@ -106,16 +105,15 @@ impl ReceiverCase {
         }
     }
 
-    pub fn run(&self, side: &Side) -> Option<Heard> {
-        let receive = side.receive?;
+    pub fn run(&self, side: &Side) -> Heard {
         let mut heard = Heard {
             calls: 0,
             bytes: vec![UNTOUCHED_BYTE; self.samples.len() / 10 + 700],
             events: vec![UNTOUCHED_BYTE; self.samples.len() / 1_000 + 130],
             answers: vec![UNTOUCHED_ANSWER; self.script.len() / CALL * HEARD],
-            state: vec![],
+            state: vec![UNTOUCHED; STATE_LEN + 1],
         };
-        heard.calls = receive(
+        heard.calls = (side.receive)(
             self.rate,
             self.role,
             &self.samples,
@@ -124,11 +122,8 @@ impl ReceiverCase {
             &mut heard.events,
             &mut heard.answers,
         );
-        if let Some(receiver_state) = side.receiver_state {
-            heard.state = vec![UNTOUCHED; STATE_LEN + 1];
-            receiver_state(self.rate, self.role, &self.samples, &self.script, &mut heard.state);
-        }
-        Some(heard)
+        (side.receiver_state)(self.rate, self.role, &self.samples, &self.script, &mut heard.state);
+        heard
     }
 }
 
@@ -210,6 +205,58 @@ impl ResamplerCase {
     }
 }
 
+/// A resampler's calls and resets between them, and its state behind them.
+#[derive(Clone)]
+pub struct TurnsCase {
+    pub src: u32,
+    pub dst: u32,
+    pub input: Vec<f64>,
+    pub script: Vec<u32>,
+    /// Places of the output and of the answers.
+    pub room: usize,
+    pub answers: usize,
+}
+
+pub struct Turned {
+    pub resampled: Resampled,
+    pub state: Vec<f64>,
+}
+
+impl TurnsCase {
+    /// The calls of a case with a reset behind some of them, and none behind
+    /// some place.
+    pub fn random(case: &ResamplerCase, random: &mut Random) -> TurnsCase {
+        let mut script = Vec::new();
+        let share = random.pick(&[2, 10, 1_000]);
+        for &len in &case.lengths {
+            script.extend([PROCESS, len]);
+            if random.once_in(share) {
+                script.extend([random.pick(&[1, 2, u32::MAX]), random.pick(&[0, 1, 5_000])]);
+            }
+        }
+        script.truncate(random.whole(0, script.len() as u32) as usize);
+        let answers = script.len() / TURN * TOLD;
+        let (src, dst, input, room) = (case.src, case.dst, case.input.clone(), case.room);
+        TurnsCase { src, dst, input, script, room, answers }
+    }
+
+    pub fn run(&self, side: &Side) -> Turned {
+        let mut output = vec![UNTOUCHED; self.room];
+        let mut answers = vec![UNTOUCHED_ANSWER; self.answers];
+        let mut state = vec![UNTOUCHED; RESAMPLER_LEN + 1];
+        let calls = (side.resampler_state)(
+            self.src,
+            self.dst,
+            &self.input,
+            &self.script,
+            &mut output,
+            &mut answers,
+            &mut state,
+        );
+        Turned { resampled: Resampled { calls, output, answers }, state }
+    }
+}
+
 /// Samples for the bare resampler, which takes any f64.
 fn samples_of_any_kind(total: usize, random: &mut Random) -> Vec<f64> {
     let odd =
@@ -249,6 +296,12 @@ pub struct Sent {
     pub steps: usize,
     pub samples: Vec<f32>,
     pub answers: Vec<u64>,
+}
+
+/// A sender's steps, and its state behind them.
+pub struct Stopped {
+    pub sent: Sent,
+    pub state: Vec<f64>,
 }
 
 impl SenderCase {
@@ -305,14 +358,13 @@ impl SenderCase {
         SenderCase { answers, ..case }
     }
 
-    pub fn run(&self, side: &Side) -> Option<Sent> {
-        let send = side.send?;
+    pub fn run(&self, side: &Side) -> Sent {
         let mut sent = Sent {
             steps: 0,
             samples: vec![UNTOUCHED as f32; self.room],
             answers: vec![UNTOUCHED_ANSWER; self.answers],
         };
-        sent.steps = send(
+        sent.steps = (side.send)(
             self.rate,
             self.role,
             &self.data,
@@ -320,7 +372,30 @@ impl SenderCase {
             &mut sent.samples,
             &mut sent.answers,
         );
-        Some(sent)
+        sent
+    }
+
+    /// The same steps, through the function that shows the state too.
+    pub fn stop(&self, side: &Side) -> Stopped {
+        let mut samples = vec![UNTOUCHED as f32; self.room];
+        let mut answers = vec![UNTOUCHED_ANSWER; self.answers];
+        let mut state = vec![UNTOUCHED; SENDER_LEN + 1];
+        let steps = (side.sender_state)(
+            self.rate,
+            self.role,
+            &self.data,
+            &self.script,
+            &mut samples,
+            &mut answers,
+            &mut state,
+        );
+        Stopped { sent: Sent { steps, samples, answers }, state }
+    }
+
+    /// The first steps alone, so that the state is seen with bits waiting too.
+    pub fn cut_short(&self, random: &mut Random) -> SenderCase {
+        let steps = random.whole(0, (self.script.len() / STEP) as u32) as usize;
+        SenderCase { script: self.script[..steps * STEP].to_vec(), ..self.clone() }
     }
 }
 

@@ -4,8 +4,12 @@ use std::collections::BTreeMap;
 use std::process::ExitCode;
 use std::time::Instant;
 
-use crate::cases::{bits_of, Heard, ReceiverCase, ResamplerCase, SenderCase, Sent, RATES};
-use crate::difference::{of_heard, of_resampled, of_sent};
+use crate::boards::{BoardCase, Seen};
+use crate::cases::{
+    bits_of, Heard, ReceiverCase, Resampled, ResamplerCase, SenderCase, Sent, TurnsCase, RATES,
+};
+use crate::difference::{of_heard, of_resampled, of_turned};
+use crate::frames::{frame_bytes, State};
 use crate::layout::*;
 use crate::random::Random;
 use crate::scenes::KINDS;
@@ -13,7 +17,10 @@ use crate::shrink::{shrink, Case};
 use crate::side::{ORIGINAL, PORT};
 use crate::tally::{SentTally, Tally};
 use crate::text::Text;
-use crate::workers;
+use crate::{refused, rooms, workers};
+
+/// All pairs of 20 kinds and 13 rates, twice.
+const ALL_CASES: usize = 520;
 
 pub struct Options {
     /// Receiver cases; twice as many of the resampler, half of the sender.
@@ -27,8 +34,7 @@ pub struct Options {
 
 impl Options {
     pub fn from(words: &[&str]) -> Option<Options> {
-        // All pairs of 20 kinds and 13 rates, twice.
-        let mut options = Options { cases: 520, seed: 1, only: None, quick: false };
+        let mut options = Options { cases: ALL_CASES, seed: 1, only: None, quick: false };
         let mut words = words.iter();
         while let Some(&name) = words.next() {
             match name {
@@ -43,9 +49,10 @@ impl Options {
     }
 }
 
-/// A difference, and a way to a smaller case that shows one. The comparison ends
-/// with the first.
+/// A difference, and a way to a smaller case that shows one; or something that
+/// the cases left out. The comparison ends with the first.
 pub struct Found {
+    what: &'static str,
     pub words: String,
     smaller: Option<Box<dyn FnOnce() -> String + Send>>,
 }
@@ -59,13 +66,18 @@ pub fn run(options: &Options) -> ExitCode {
         println!("    {reason}: {lines} lines");
     }
     let start = Instant::now();
-    let parts: [(&str, Part); 8] = [
+    let parts: [(&str, Part); 13] = [
         ("refused rates", refused_rates),
+        ("refused boards", refused_boards),
+        ("frames", frames),
+        ("memory lent at every length", rooms),
+        ("receiver", receiver_cases),
+        ("refused calls", refused_calls),
         ("fresh receivers at every rate", fresh_receivers),
+        ("fresh senders at every rate", fresh_senders),
         ("max_output_len at every rate", output_lengths),
         ("resampler", resampler_cases),
         ("sender", sender_cases),
-        ("receiver", receiver_cases),
         ("from sender to receiver", loops),
         ("board", board_cases),
     ];
@@ -80,7 +92,7 @@ pub fn run(options: &Options) -> ExitCode {
                 println!("{name}: {words}, {seconds:.1} s");
             }
             Err(found) => {
-                println!("{name}: DIFFERENCE: {}", found.words);
+                println!("{name}: {}: {}", found.what, found.words);
                 if let (Some(smaller), false) = (found.smaller, options.quick) {
                     println!("looking for a smaller case ..\n{}", smaller());
                 }
@@ -89,6 +101,10 @@ pub fn run(options: &Options) -> ExitCode {
         }
     }
     println!("0 differences, {:.0} s", start.elapsed().as_secs_f64());
+    if options.only.is_some() || options.cases < ALL_CASES {
+        println!("this is not the whole comparison");
+        return ExitCode::from(3);
+    }
     ExitCode::SUCCESS
 }
 
@@ -123,15 +139,62 @@ fn refused_rates(_: &Options) -> Result<String, Found> {
     Ok(format!("{} rates, alone and in pairs, 0 differences", rates.len()))
 }
 
+fn refused_boards(_: &Options) -> Result<String, Found> {
+    Ok(refused::of_new_boards().map_err(plain)? + ", 0 differences")
+}
+
+/// Every frame; and the deframer, idle and in as many random states as there
+/// are receiver cases, over every list of ten bits and a long one.
+fn frames(options: &Options) -> Result<String, Found> {
+    frame_bytes().map_err(plain)?;
+    workers::all(0..options.cases, |index| {
+        let mut random = Random::of_case(options.seed ^ 0x4652, index as u64);
+        let state = if index == 0 { State::IDLE } else { State::random(&mut random) };
+        state.check_lists().and_then(|()| state.check_long(&mut random)).map_err(plain)
+    })?;
+    Ok(format!("256 bytes; 1024 lists of ten bits from {} states, 0 differences", options.cases))
+}
+
+/// Refused calls among accepted ones, which change nothing.
+fn refused_calls(options: &Options) -> Result<String, Found> {
+    let lists = options.cases / 20;
+    let count = |salt: u64, of_one: fn(usize, &mut Random) -> Result<usize, String>| {
+        let refused = workers::all(0..lists, |index| {
+            let mut random = Random::of_case(options.seed ^ salt, index as u64);
+            of_one(index, &mut random)
+                .map_err(|words| plain(format!("list {index} of seed {}: {words}", options.seed)))
+        })?;
+        Ok(refused.iter().sum::<usize>())
+    };
+    let boards = count(0x5242, refused::of_a_board)?;
+    let receivers = count(0x5252, refused::of_a_receiver)?;
+    let resamplers = count(0x525A, refused::of_a_resampler)?;
+    for (rate, role) in [(8_000, ORIGINATE), (11_025, ANSWER)] {
+        refused::of_a_full_receiver(rate, role).map_err(plain)?;
+    }
+    Ok(format!(
+        "{lists} lists each: {boards} of a board, {receivers} of a receiver, {resamplers} of a resampler; 2 full receivers, 0 differences"
+    ))
+}
+
+fn rooms(_: &Options) -> Result<String, Found> {
+    Ok(format!("{} lists of calls, 0 differences", rooms::compare().map_err(plain)?))
+}
+
 /// Every coefficient of every filter, and all else that a fresh receiver holds.
 fn fresh_receivers(_: &Options) -> Result<String, Found> {
-    if PORT.receiver_state.is_none() {
-        return Ok("not compared, as the port exports no state".into());
-    }
     for rate in 8_000..=48_000 {
         let role = if rate % 2 == 0 { ORIGINATE } else { ANSWER };
         let case = ReceiverCase { rate, role, samples: vec![], script: vec![] };
         check_receiver(&case, "")?;
+    }
+    Ok("40001 rates, 0 differences".into())
+}
+
+fn fresh_senders(_: &Options) -> Result<String, Found> {
+    for rate in 8_000..=48_000 {
+        let role = if rate % 2 == 0 { ORIGINATE } else { ANSWER };
+        check_sender(&SenderCase::whole(rate, role, vec![], vec![], 0), "")?;
     }
     Ok("40001 rates, 0 differences".into())
 }
@@ -170,28 +233,41 @@ fn check_lengths(src: u32, dst: u32, lengths: &[u32]) -> Result<(), Found> {
 
 fn resampler_cases(options: &Options) -> Result<String, Found> {
     let cases = options.cases * 2;
-    workers::all(0..cases, |index| {
+    let told = workers::all(0..cases, |index| {
         let mut random = Random::of_case(options.seed ^ 0x5253, index as u64);
         let case = ResamplerCase::random(index, &mut random);
-        check_resampler(&case, &format!("case {index} of seed {}: ", options.seed))
+        let name = format!("case {index} of seed {}: ", options.seed);
+        let turns = TurnsCase::random(&case, &mut random);
+        match of_turned(&turns.run(&ORIGINAL), &turns.run(&PORT)) {
+            None => check_resampler(&case, &name),
+            Some(words) => Err(plain(format!("{name}with resets: {words}"))),
+        }
     })?;
+    let seen = |number| told.iter().any(|r| r.answers.chunks_exact(TOLD).any(|a| a[0] == number));
+    reached(options, &[("refusal 3", seen(3)), ("refusal 5", seen(5))])?;
     Ok(format!("{cases} cases, 0 differences"))
 }
 
 fn sender_cases(options: &Options) -> Result<String, Found> {
-    if PORT.send.is_none() {
-        return Ok("not compared, as the port exports none".into());
-    }
     let cases = options.cases / 2;
     let tallies = workers::all(0..cases, |index| {
         let mut random = Random::of_case(options.seed ^ 0x5458, index as u64);
         let case = SenderCase::random(index, &mut random);
-        let sent = check_sender(&case, &format!("case {index} of seed {}: ", options.seed))?;
-        Ok(sent.map_or_else(SentTally::default, |sent| SentTally::of(&case, &sent)))
+        let name = format!("case {index} of seed {}: ", options.seed);
+        let sent = check_sender(&case, &name)?;
+        let short = case.cut_short(&mut random);
+        check_sender(&short, &format!("{name}cut short: "))?;
+        let state = short.stop(&ORIGINAL).state;
+        let waiting = [state[BITS_COUNTED] > 0.0, state[SAMPLES_COUNTED] > 0.0];
+        Ok((SentTally::of(&case, &sent), waiting))
     })?;
     let mut all = SentTally::default();
-    tallies.iter().for_each(|tally| all.join(tally));
+    tallies.iter().for_each(|(tally, _)| all.join(tally));
+    let [bits, samples] = [0, 1].map(|i| tallies.iter().filter(|(_, w)| w[i]).count());
     println!("    {}", all.words());
+    println!("    cut short, bits wait in {bits} states, samples in {samples}");
+    reached(options, &all.reached())?;
+    reached(options, &[("waiting bits", bits > 0), ("waiting samples", samples > 0)])?;
     Ok(format!("{cases} cases, 0 differences"))
 }
 
@@ -199,9 +275,6 @@ fn sender_cases(options: &Options) -> Result<String, Found> {
 /// fixed rates and some random ones, in both roles. Two bytes of training go
 /// before, which a receiver may hear amiss while it finds the bits.
 fn loops(options: &Options) -> Result<String, Found> {
-    if PORT.send.is_none() || PORT.receive.is_none() {
-        return Ok("not run, as the port does not export both".into());
-    }
     let rates = RATES.len() + options.cases / 13;
     let bytes = workers::all(0..2 * rates, |index| {
         let mut random = Random::of_case(options.seed ^ 0x4C4F, index as u64);
@@ -252,13 +325,10 @@ fn sent_by_the_port(rate: u32, role: u32, amplitude: f32, text: &[u8]) -> Vec<f3
     script.extend([READ, 1_000].repeat(reads));
     let data = [&TRAINING, text].concat();
     let case = SenderCase::whole(rate, role, data, script, 1_000 * reads);
-    case.run(&PORT).expect("asked before").samples
+    case.run(&PORT).samples
 }
 
 fn receiver_cases(options: &Options) -> Result<String, Found> {
-    if PORT.receive.is_none() {
-        return Ok("not compared, as the port exports none".into());
-    }
     let indexes = match options.only {
         Some(index) => index..index + 1,
         None => 0..options.cases,
@@ -283,69 +353,83 @@ fn receiver_cases(options: &Options) -> Result<String, Found> {
         all.join(tally);
     }
     all.print("all");
+    let kinds: Vec<_> = KINDS.iter().zip(&tallies).map(|(k, t)| (k.name, t.any())).collect();
+    reached(options, &kinds)?;
+    reached(options, &all.reached())?;
     Ok(format!("{cases} cases, 0 differences"))
 }
 
 /// The board against the original's receiver and an independent judge.
-#[cfg(board)]
 fn board_cases(options: &Options) -> Result<String, Found> {
     let cases = options.cases / 8;
-    let seen = workers::all(0..cases, |index| {
+    let seen = workers::all(0..cases + 1, |index| {
         let mut random = Random::of_case(options.seed ^ 0x424F, index as u64);
-        let case = crate::boards::BoardCase::random(index, &mut random);
+        let case = match index {
+            _ if index == cases => BoardCase::with_every_answer(),
+            _ => BoardCase::random(index, &mut random),
+        };
         let name = format!("case {index} of seed {}: ", options.seed);
         case.seen().map_err(|words| plain(format!("{name}{words}")))
     })?;
-    let seen = crate::boards::Seen::sum(&seen);
+    let seen = Seen::sum(&seen);
     println!(
         "    {} writes, {} refused; {} bytes; lines answered 0, 11 to 20, 34: {:?}",
         seen.writes, seen.refused, seen.bytes, seen.answers
     );
+    let every_answer = seen.answers.iter().all(|&n| n > 0);
+    reached(options, &[("a refused write", seen.refused > 0), ("an answer", every_answer)])?;
     Ok(format!(
-        "{cases} cases, {} of them after every write, {} lists of writes, 0 differences",
-        seen.every, seen.stops
+        "{} cases, {} of them after every write, {} lists of writes, 0 differences",
+        cases + 1,
+        seen.every,
+        seen.stops
     ))
 }
 
-#[cfg(not(board))]
-fn board_cases(_: &Options) -> Result<String, Found> {
-    Ok("not compared, as the port exports none".into())
-}
-
 pub fn check_receiver(case: &ReceiverCase, name: &str) -> Result<Heard, Found> {
-    let heard = case.run(&ORIGINAL).expect("the original hears");
-    match case.run(&PORT).and_then(|port| of_heard(&heard, &port)) {
+    let heard = case.run(&ORIGINAL);
+    match of_heard(&heard, &case.run(&PORT)) {
         None => Ok(heard),
         Some(words) => Err(found(case, name, words, |case, text| {
-            text.receiver(case, &case.run(&ORIGINAL).expect("the original hears"), &[]);
+            text.receiver(case, &case.run(&ORIGINAL), &[]);
         })),
     }
 }
 
-fn check_resampler(case: &ResamplerCase, name: &str) -> Result<(), Found> {
-    match of_resampled(&case.run(&ORIGINAL), &case.run(&PORT)) {
-        None => Ok(()),
+/// What the original answered.
+fn check_resampler(case: &ResamplerCase, name: &str) -> Result<Resampled, Found> {
+    let resampled = case.run(&ORIGINAL);
+    match of_resampled(&resampled, &case.run(&PORT)) {
+        None => Ok(resampled),
         Some(words) => Err(found(case, name, words, |case, text| {
             text.resampler(case, &case.run(&ORIGINAL));
         })),
     }
 }
 
-/// What the original sent; None where the port exports no sender.
-pub fn check_sender(case: &SenderCase, name: &str) -> Result<Option<Sent>, Found> {
-    let (Some(a), Some(b)) = (case.run(&ORIGINAL), case.run(&PORT)) else {
-        return Ok(None);
-    };
-    match of_sent(&a, &b) {
-        None => Ok(Some(a)),
+/// What the original sent.
+pub fn check_sender(case: &SenderCase, name: &str) -> Result<Sent, Found> {
+    match case.difference() {
+        None => Ok(case.run(&ORIGINAL)),
         Some(words) => Err(found(case, name, words, |case, text| {
-            text.sender(case, &case.run(&ORIGINAL).expect("the original sends"));
+            text.sender(case, &case.run(&ORIGINAL));
         })),
     }
 }
 
 fn plain(words: String) -> Found {
-    Found { words, smaller: None }
+    Found { what: "DIFFERENCE", words, smaller: None }
+}
+
+/// In a whole comparison all of this must have come about.
+fn reached(options: &Options, all: &[(&str, bool)]) -> Result<(), Found> {
+    let left_out = all.iter().find(|(_, seen)| !seen);
+    match left_out {
+        Some((name, _)) if options.only.is_none() && options.cases >= ALL_CASES => {
+            Err(Found { what: "LEFT OUT", words: name.to_string(), smaller: None })
+        }
+        _ => Ok(()),
+    }
 }
 
 fn found<C>(case: &C, name: &str, words: String, write: fn(&C, &mut Text)) -> Found
@@ -354,6 +438,7 @@ where
 {
     let case = case.clone();
     Found {
+        what: "DIFFERENCE",
         words: format!("{name}{words}"),
         smaller: Some(Box::new(move || smallest(&case, words, write))),
     }

@@ -1,7 +1,7 @@
 //! Where two answers to the same calls differ, in words.
 
-use crate::cases::{Heard, Resampled, Sent};
-use crate::layout::{HEARD, SENT, STATE, TOLD};
+use crate::cases::{Heard, Resampled, Sent, Stopped, Turned};
+use crate::layout::{HEARD, RESAMPLER_PARTS, SENDER, SENT, STATE, TOLD};
 
 /// The first difference between what the original and the port answered.
 pub type Difference = Option<String>;
@@ -39,10 +39,10 @@ fn in_floats(a: &[f64], b: &[f64], name: &dyn Fn(usize) -> String) -> Difference
     ))
 }
 
-/// What number `at` of a receiver's state is called.
-fn place_name(at: usize) -> String {
+/// What number `at` of a state of these parts is called.
+fn place_name(parts: &[(&str, usize)], at: usize) -> String {
     let mut first = 0;
-    for (name, len) in STATE {
+    for (name, len) in parts {
         if at < first + len {
             return format!("state at the end, {name} [{}]", at - first);
         }
@@ -58,7 +58,7 @@ pub fn of_heard(a: &Heard, b: &Heard) -> Difference {
         .or_else(|| in_answers("call", &names, &a.answers, &b.answers))
         .or_else(|| in_list("byte", &a.bytes, &b.bytes))
         .or_else(|| in_list("event", &a.events, &b.events))
-        .or_else(|| in_floats(&a.state, &b.state, &place_name))
+        .or_else(|| in_floats(&a.state, &b.state, &|at| place_name(&STATE, at)))
 }
 
 pub fn of_resampled(a: &Resampled, b: &Resampled) -> Difference {
@@ -66,6 +66,12 @@ pub fn of_resampled(a: &Resampled, b: &Resampled) -> Difference {
     differ("calls run", &a.calls, &b.calls)
         .or_else(|| in_answers("answer to call", &names, &a.answers, &b.answers))
         .or_else(|| in_floats(&a.output, &b.output, &|at| format!("output sample {at}")))
+}
+
+pub fn of_turned(a: &Turned, b: &Turned) -> Difference {
+    let parts = &STATE[..RESAMPLER_PARTS];
+    of_resampled(&a.resampled, &b.resampled)
+        .or_else(|| in_floats(&a.state, &b.state, &|at| place_name(parts, at)))
 }
 
 pub fn of_sent(a: &Sent, b: &Sent) -> Difference {
@@ -81,4 +87,10 @@ pub fn of_sent(a: &Sent, b: &Sent) -> Difference {
                 a[at], b[at]
             ))
         })
+}
+
+pub fn of_stopped(a: &Stopped, b: &Stopped) -> Difference {
+    let parts = [&STATE[..RESAMPLER_PARTS], &SENDER[..]].concat();
+    of_sent(&a.sent, &b.sent)
+        .or_else(|| in_floats(&a.state, &b.state, &|at| place_name(&parts, at)))
 }

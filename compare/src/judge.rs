@@ -90,6 +90,17 @@ fn good(line: &[u8], station: u64) -> Result<(u64, i64), u64> {
     Ok((stamp - age, level))
 }
 
+/// "1 rate outside 8,000 to 48,000. 2 station 0": the first that applies, or 0.
+pub fn board_refusal(rate: u32, station: u16) -> u32 {
+    if !rate_fits(rate) {
+        1
+    } else if station == 0 {
+        2
+    } else {
+        0
+    }
+}
+
 /// A fresh board, and one write for each length, as long as there is room for
 /// the answers (`layout::JUDGED`). A write takes the next samples, or what is
 /// left of them. Afterwards `shown` holds what the board shows and its counts
@@ -104,7 +115,7 @@ pub fn listen(
     answers: &mut [u64],
     shown: &mut [u64],
 ) -> usize {
-    if !rate_fits(rate) || station == 0 {
+    if board_refusal(rate, station) != 0 {
         return 0;
     }
     let mut receiver = Receiver::new(rate, role);

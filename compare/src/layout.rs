@@ -10,6 +10,11 @@ pub const ANSWER: u32 = 1;
 // refusal; then the count, 0 where there is none.
 pub const TOLD: usize = 2;
 
+// A resampler's script has two numbers for each call: 0 and how many samples to
+// process; or another number and any, a reset.
+pub const TURN: usize = 2;
+pub const PROCESS: u32 = 0;
+
 // A receiver's script has three numbers for each call: the samples to write,
 // then at most how many bytes to read and how many events to drain.
 pub const CALL: usize = 3;
@@ -47,6 +52,14 @@ pub const SAMPLES_FOR_BITS: u64 = 4;
 // refusal; the number asked for, or the places that a read filled, else 0; and
 // whether bits wait afterwards (0 or 1).
 pub const SENT: usize = 3;
+
+/// The bits of a byte's frame: 1 for mark, 0 for space.
+pub const FRAME: usize = 10;
+
+// A deframer's answers are six numbers for each bit: 1 and the byte where the
+// bit yielded one, else 0 and 0; then its state behind the bit: in a frame (0 or
+// 1), bits so far, byte so far, errors.
+pub const PUSHED: usize = 6;
 
 /// Places of a receiver's filter, used in full at 48,000.
 pub const TAPS: usize = 373;
@@ -99,14 +112,43 @@ pub const STATE: [(&str, usize); 39] = [
     ("samples accepted", 1),
 ];
 
-/// The number of f64 in a receiver's state.
-pub const STATE_LEN: usize = state_len();
+/// The parts of a receiver's state that are its resampler's.
+pub const RESAMPLER_PARTS: usize = 6;
 
-const fn state_len() -> usize {
+/// The most bits that wait in a sender, and the places of its samples.
+pub const WAITING_BITS: usize = 4_096;
+pub const WAITING_SAMPLES: usize = 64;
+
+/// A sender's state likewise, behind its resampler's parts. An f32 stands as the
+/// f64 of its value; what waits stands oldest first.
+pub const SENDER: [(&str, usize); 10] = [
+    ("phase", 1),
+    ("inc", 1),
+    ("sym_pos", 1),
+    ("current", 1),
+    ("amplitude", 1),
+    ("samples given", 1),
+    ("bits waiting", 1),
+    ("samples waiting", 1),
+    ("bits", WAITING_BITS),
+    ("pending", WAITING_SAMPLES),
+];
+
+/// The number of f64 in a receiver's state, in a resampler's and in a sender's.
+pub const STATE_LEN: usize = places_of(&STATE, STATE.len());
+pub const RESAMPLER_LEN: usize = places_of(&STATE, RESAMPLER_PARTS);
+pub const SENDER_LEN: usize = RESAMPLER_LEN + places_of(&SENDER, SENDER.len());
+
+/// Where a sender's state counts what waits.
+pub const BITS_COUNTED: usize = RESAMPLER_LEN + places_of(&SENDER, 6);
+pub const SAMPLES_COUNTED: usize = BITS_COUNTED + 1;
+
+/// The places of the first so many parts.
+const fn places_of(state: &[(&str, usize)], parts: usize) -> usize {
     let mut sum = 0;
     let mut i = 0;
-    while i < STATE.len() {
-        sum += STATE[i].1;
+    while i < parts {
+        sum += state[i].1;
         i += 1;
     }
     sum

@@ -7,15 +7,12 @@
 //!     loops STEP BYTES
 //!     loudest FROM TO STEP
 //!     vectors FOLDER
+//!     replay
 //!     hear FILE RATE ROLE FOLDER
 //!     render RATE ROLE pcm|float
-//!     say FILE RATE ROLE
+//!     call FILE RATE ROLE pcm|float
 //!     changes
 
-// A library that exports only some functions leaves some of this unused.
-#![cfg_attr(not(all(receiver, state, sender, board)), allow(dead_code))]
-
-#[cfg(board)]
 mod boards;
 mod cases;
 mod clock;
@@ -23,6 +20,7 @@ mod compare;
 mod difference;
 #[cfg(test)]
 mod facts;
+mod frames;
 mod hear;
 mod judge;
 mod layout;
@@ -31,9 +29,10 @@ mod loudest;
 mod oracle;
 mod port;
 mod random;
+mod refused;
 mod render;
-#[cfg(test)]
 mod replay;
+mod rooms;
 mod scenes;
 mod shrink;
 mod side;
@@ -60,9 +59,10 @@ usage: compare [--cases N] [--seed S]   the same calls to both sides
        loops STEP BYTES                 so many bytes from sender to receiver, at each STEPth rate
        loudest FROM TO STEP             the sender's largest sample, at each STEPth rate
        vectors FOLDER                   the original's answers as text
+       replay                           the calls of that text on both sides
        hear FILE RATE ROLE FOLDER       likewise, to a recording of f32 samples
        render RATE ROLE pcm|float       a call as a WAV file on standard output
-       say FILE RATE ROLE               a file's bytes likewise, by the sender
+       call FILE RATE ROLE pcm|float    the call that `send` makes of a file's bytes
        changes                          what the build changed in the original";
 
 fn main() -> ExitCode {
@@ -84,7 +84,7 @@ fn main() -> ExitCode {
             None => usage(),
         },
         ["loops", step, bytes] => match (step.parse(), bytes.parse()) {
-            (Ok(step), Ok(bytes)) => soak::loops_at(step, bytes),
+            (Ok(step @ 1..), Ok(bytes)) => soak::loops_at(step, bytes),
             _ => usage(),
         },
         ["loudest", from, to, step] => match (from.parse(), to.parse(), step.parse()) {
@@ -92,6 +92,7 @@ fn main() -> ExitCode {
             _ => usage(),
         },
         ["vectors", folder] => vectors::run(folder),
+        ["replay"] => replay::run(),
         ["hear", file, rate, role, folder] => match (rate.parse(), role.parse()) {
             (Ok(rate), Ok(role)) => hear::run(file, rate, role, folder),
             _ => usage(),
@@ -100,10 +101,14 @@ fn main() -> ExitCode {
             (Ok(rate @ 8_000..=48_000), Ok(role)) => render::run(rate, role, format == "float"),
             _ => usage(),
         },
-        ["say", file, rate, role] => match (rate.parse(), role.parse()) {
-            (Ok(rate @ 8_000..=48_000), Ok(role)) => render::say(file, rate, role),
-            _ => usage(),
-        },
+        ["call", file, rate, role, format @ ("pcm" | "float")] => {
+            match (rate.parse(), role.parse()) {
+                (Ok(rate @ 8_000..=48_000), Ok(role)) => {
+                    render::call(file, rate, role, format == "float")
+                }
+                _ => usage(),
+            }
+        }
         ["changes"] => {
             print!("{}", original::CHANGES);
             ExitCode::SUCCESS

@@ -7,6 +7,7 @@
 //! own copy of the original.
 
 use original::carrier::Event;
+use original::frame::{frame_byte, Deframer};
 use original::nco::Goertzel;
 use original::resample::Resampler;
 use original::rx::Rx;
@@ -24,7 +25,7 @@ const MOST_ACCEPTED: u64 = 4_294_967_296;
 const MOST_WAITING_BYTES: usize = 409;
 const MOST_BYTES: u32 = 512;
 const MOST_EVENTS: u32 = 64;
-const MOST_WAITING_BITS: u64 = 4_096;
+const MOST_WAITING_BITS: u64 = WAITING_BITS as u64;
 const MOST_BITS_ASKED: u64 = 1_048_576;
 
 pub fn rate_fits(rate: u32) -> bool {
@@ -53,6 +54,52 @@ fn tell(answer: Answer, told: &mut [u64]) {
     told.copy_from_slice(&[number, count]);
 }
 
+/// The frame of each byte, as long as there is room for ten bits. Returns the
+/// number of frames.
+pub fn frame_bytes(bytes: &[u8], bits: &mut [u8]) -> usize {
+    let mut frames = 0;
+    for (&byte, ten) in bytes.iter().zip(bits.chunks_exact_mut(FRAME)) {
+        ten.copy_from_slice(&frame_byte(byte).map(u8::from));
+        frames += 1;
+    }
+    frames
+}
+
+/// A deframer in any state, and one `push_bit` for each bit (0 is space), as
+/// long as there is room for an answer (`layout::PUSHED`). Returns the number of
+/// bits pushed.
+pub fn deframe(
+    in_frame: u32,
+    bit_count: u32,
+    acc: u32,
+    errors: u32,
+    bits: &[u8],
+    answers: &mut [u64],
+) -> usize {
+    let mut deframer = Deframer {
+        in_frame: in_frame != 0,
+        bit_count: bit_count as u8,
+        acc: acc as u8,
+        errors: errors as usize,
+    };
+    let mut pushed = 0;
+    for (&bit, answer) in bits.iter().zip(answers.chunks_exact_mut(PUSHED)) {
+        let byte = deframer.push_bit(bit != 0);
+        // "The error count holds at 4,294,967,295."
+        deframer.errors = deframer.errors.min(u32::MAX as usize);
+        answer.copy_from_slice(&[
+            u64::from(byte.is_some()),
+            u64::from(byte.unwrap_or(0)),
+            u64::from(deframer.in_frame),
+            u64::from(deframer.bit_count),
+            u64::from(deframer.acc),
+            deframer.errors as u64,
+        ]);
+        pushed += 1;
+    }
+    pushed
+}
+
 /// One `process` call for each length, as long as there is room for an answer
 /// (`layout::TOLD`). A call takes the next samples of the input, or what is
 /// left of it, and its output stands behind the earlier ones. Returns the
@@ -73,19 +120,58 @@ pub fn resample(
     let (mut read, mut written, mut calls) = (0, 0, 0);
     for (&len, told) in lengths.iter().zip(answers.chunks_exact_mut(TOLD)) {
         let block = part(input, read, len);
-        let room = &mut output[written..];
-        let answer = if block.len() > MOST_RESAMPLED {
-            Err(3)
-        } else if room.len() < resampler.max_output_len(block.len()) {
-            Err(5)
-        } else {
-            let count = resampler.process(block, room);
-            written += count;
-            Ok(count as u64)
-        };
+        let answer = process(&mut resampler, block, &mut output[written..]);
+        written += answer.unwrap_or(0) as usize;
         tell(answer, told);
         read += block.len();
         calls += 1;
+    }
+    calls
+}
+
+fn process(resampler: &mut Resampler, block: &[f64], room: &mut [f64]) -> Answer {
+    if block.len() > MOST_RESAMPLED {
+        Err(3)
+    } else if room.len() < resampler.max_output_len(block.len()) {
+        Err(5)
+    } else {
+        Ok(resampler.process(block, room) as u64)
+    }
+}
+
+/// Likewise for a script of `process` and `reset` (`layout::TURN`). Afterwards
+/// `state` holds the resampler's numbers, if it has room for them.
+pub fn resampler_state(
+    src: u32,
+    dst: u32,
+    input: &[f64],
+    script: &[u32],
+    output: &mut [f64],
+    answers: &mut [u64],
+    state: &mut [f64],
+) -> usize {
+    if !rates_fit(src, dst) {
+        return 0;
+    }
+    let mut resampler = Resampler::new(f64::from(src), f64::from(dst));
+    let (mut read, mut written, mut calls) = (0, 0, 0);
+    for (turn, told) in script.chunks_exact(TURN).zip(answers.chunks_exact_mut(TOLD)) {
+        let answer = if turn[0] == PROCESS {
+            let block = part(input, read, turn[1]);
+            read += block.len();
+            process(&mut resampler, block, &mut output[written..])
+        } else {
+            resampler.reset();
+            Ok(0)
+        };
+        written += answer.unwrap_or(0) as usize;
+        tell(answer, told);
+        calls += 1;
+    }
+    if state.len() >= RESAMPLER_LEN {
+        let mut places = state.iter_mut();
+        let place = &mut |value| *places.next().expect("there are enough") = value;
+        each_of_resampler(&resampler, place);
     }
     calls
 }
@@ -160,19 +246,7 @@ impl Receiver {
     /// Hands out the receiver's state in the order of `layout::STATE`.
     fn each_place(&self, place: &mut dyn FnMut(f64)) {
         let rx = &self.rx;
-        let filter = &rx.resampler;
-        let n = filter.taps.len();
-        for i in 0..TAPS {
-            place(if i < n { filter.taps[i] } else { 0.0 });
-        }
-        for i in 0..TAPS {
-            // The newest sample stands just before fir_pos.
-            place(if i < n { filter.fir_hist[(filter.fir_pos + n - 1 - i) % n] } else { 0.0 });
-        }
-        filter.herm_hist.iter().for_each(|&v| place(v));
-        for value in [filter.frac_pos, filter.n_pushed, filter.step] {
-            place(value);
-        }
+        each_of_resampler(&rx.resampler, place);
 
         place(rx.pos as f64);
         place(truth(rx.filled));
@@ -280,6 +354,21 @@ pub fn receiver_state(
     1
 }
 
+fn each_of_resampler(filter: &Resampler, place: &mut dyn FnMut(f64)) {
+    let n = filter.taps.len();
+    for i in 0..TAPS {
+        place(if i < n { filter.taps[i] } else { 0.0 });
+    }
+    for i in 0..TAPS {
+        // The newest sample stands just before fir_pos.
+        place(if i < n { filter.fir_hist[(filter.fir_pos + n - 1 - i) % n] } else { 0.0 });
+    }
+    filter.herm_hist.iter().for_each(|&v| place(v));
+    for value in [filter.frac_pos, filter.n_pushed, filter.step] {
+        place(value);
+    }
+}
+
 fn each_of_probe(probe: &Goertzel, place: &mut dyn FnMut(f64)) {
     place(probe.coeff);
     place(probe.s1);
@@ -297,6 +386,10 @@ struct Sender {
 }
 
 impl Sender {
+    fn new(rate: u32, role: u32) -> Sender {
+        Sender { tx: Tx::new(config(rate, role)), given: 0 }
+    }
+
     /// "waiting + new bits exceed 4,096".
     fn room_for(&self, bits: u64) -> bool {
         (self.tx.bits.len() as u64).saturating_add(bits) <= MOST_WAITING_BITS
@@ -344,6 +437,58 @@ impl Sender {
         }
         Ok(self.tx.samples_for_bits(n as usize) as u64)
     }
+
+    /// The number of steps run.
+    fn run(
+        &mut self,
+        data: &[u8],
+        script: &[u64],
+        samples: &mut [f32],
+        answers: &mut [u64],
+    ) -> usize {
+        let (mut taken, mut filled, mut steps) = (0, 0, 0);
+        for (step, sent) in script.chunks_exact(STEP).zip(answers.chunks_exact_mut(SENT)) {
+            let n = step[1];
+            let answer = match step[0] {
+                WRITE => {
+                    let start = taken;
+                    taken = end_of(start, n, data.len());
+                    self.write(&data[start..taken])
+                }
+                IDLE_MARK => self.write_idle_mark(n),
+                AMPLITUDE => self.set_amplitude(f32::from_bits(n as u32)),
+                READ => {
+                    let start = filled;
+                    filled = end_of(start, n, samples.len());
+                    self.read(&mut samples[start..filled])
+                }
+                _ => self.samples_for_bits(n),
+            };
+            tell(answer, &mut sent[..TOLD]);
+            sent[TOLD] = u64::from(self.tx.pending());
+            steps += 1;
+        }
+        steps
+    }
+
+    /// Hands out the sender's state: its resampler, then `layout::SENDER`.
+    fn each_place(&self, place: &mut dyn FnMut(f64)) {
+        let tx = &self.tx;
+        each_of_resampler(&tx.resampler, place);
+        for value in [tx.nco.phase, tx.nco.inc, tx.sym_pos, truth(tx.current)] {
+            place(value);
+        }
+        place(f64::from(tx.amplitude));
+        place(self.given as f64);
+        place(tx.bits.len() as f64);
+        place(tx.pending.len() as f64);
+        for i in 0..WAITING_BITS {
+            place(tx.bits.get(i).map_or(0.0, |&bit| truth(bit)));
+        }
+        for i in 0..WAITING_SAMPLES {
+            place(tx.pending.get(i).map_or(0.0, |&sample| f64::from(sample)));
+        }
+    }
 }
 
 /// Where `n` places from `from` on end, in a list of `len`.
@@ -366,28 +511,28 @@ pub fn send(
     if !rate_fits(rate) {
         return 0;
     }
-    let mut sender = Sender { tx: Tx::new(config(rate, role)), given: 0 };
-    let (mut taken, mut filled, mut steps) = (0, 0, 0);
-    for (step, sent) in script.chunks_exact(STEP).zip(answers.chunks_exact_mut(SENT)) {
-        let n = step[1];
-        let answer = match step[0] {
-            WRITE => {
-                let start = taken;
-                taken = end_of(start, n, data.len());
-                sender.write(&data[start..taken])
-            }
-            IDLE_MARK => sender.write_idle_mark(n),
-            AMPLITUDE => sender.set_amplitude(f32::from_bits(n as u32)),
-            READ => {
-                let start = filled;
-                filled = end_of(start, n, samples.len());
-                sender.read(&mut samples[start..filled])
-            }
-            _ => sender.samples_for_bits(n),
-        };
-        tell(answer, &mut sent[..TOLD]);
-        sent[TOLD] = u64::from(sender.tx.pending());
-        steps += 1;
+    Sender::new(rate, role).run(data, script, samples, answers)
+}
+
+/// Likewise. Afterwards `state` holds the sender's numbers, if it has room for
+/// them.
+pub fn sender_state(
+    rate: u32,
+    role: u32,
+    data: &[u8],
+    script: &[u64],
+    samples: &mut [f32],
+    answers: &mut [u64],
+    state: &mut [f64],
+) -> usize {
+    if !rate_fits(rate) {
+        return 0;
+    }
+    let mut sender = Sender::new(rate, role);
+    let steps = sender.run(data, script, samples, answers);
+    if state.len() >= SENDER_LEN {
+        let mut places = state.iter_mut();
+        sender.each_place(&mut |value| *places.next().expect("there are enough") = value);
     }
     steps
 }

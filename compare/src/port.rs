@@ -23,6 +23,21 @@ extern "C" {
         answers_len: usize,
     ) -> usize;
 
+    fn morkhetta_resampler_state(
+        src: u32,
+        dst: u32,
+        input: *const f64,
+        input_len: usize,
+        script: *const u32,
+        script_len: usize,
+        output: *mut f64,
+        output_len: usize,
+        answers: *mut u64,
+        answers_len: usize,
+        state: *mut f64,
+        state_len: usize,
+    ) -> usize;
+
     fn morkhetta_max_output_len(
         src: u32,
         dst: u32,
@@ -32,7 +47,6 @@ extern "C" {
         answers_len: usize,
     ) -> usize;
 
-    #[cfg(receiver)]
     fn morkhetta_receive(
         rate: u32,
         role: u32,
@@ -48,7 +62,6 @@ extern "C" {
         answers_len: usize,
     ) -> usize;
 
-    #[cfg(state)]
     fn morkhetta_receiver_state(
         rate: u32,
         role: u32,
@@ -60,7 +73,26 @@ extern "C" {
         state_len: usize,
     ) -> u32;
 
-    #[cfg(board)]
+    fn morkhetta_frame_bytes(
+        bytes: *const u8,
+        bytes_len: usize,
+        bits: *mut u8,
+        bits_len: usize,
+    ) -> usize;
+
+    fn morkhetta_deframe(
+        in_frame: u32,
+        bit_count: u32,
+        acc: u32,
+        errors: u32,
+        bits: *const u8,
+        bits_len: usize,
+        answers: *mut u64,
+        answers_len: usize,
+    ) -> usize;
+
+    fn morkhetta_board_refusal(rate: u32, station: u16) -> u32;
+
     fn morkhetta_listen(
         rate: u32,
         station: u16,
@@ -75,7 +107,6 @@ extern "C" {
         shown_len: usize,
     ) -> usize;
 
-    #[cfg(sender)]
     fn morkhetta_send(
         rate: u32,
         role: u32,
@@ -87,6 +118,21 @@ extern "C" {
         samples_len: usize,
         answers: *mut u64,
         answers_len: usize,
+    ) -> usize;
+
+    fn morkhetta_sender_state(
+        rate: u32,
+        role: u32,
+        data: *const u8,
+        data_len: usize,
+        script: *const u64,
+        script_len: usize,
+        samples: *mut f32,
+        samples_len: usize,
+        answers: *mut u64,
+        answers_len: usize,
+        state: *mut f64,
+        state_len: usize,
     ) -> usize;
 }
 
@@ -117,6 +163,33 @@ pub fn resample(
     }
 }
 
+pub fn resampler_state(
+    src: u32,
+    dst: u32,
+    input: &[f64],
+    script: &[u32],
+    output: &mut [f64],
+    answers: &mut [u64],
+    state: &mut [f64],
+) -> usize {
+    unsafe {
+        morkhetta_resampler_state(
+            src,
+            dst,
+            input.as_ptr(),
+            input.len(),
+            script.as_ptr(),
+            script.len(),
+            output.as_mut_ptr(),
+            output.len(),
+            answers.as_mut_ptr(),
+            answers.len(),
+            state.as_mut_ptr(),
+            state.len(),
+        )
+    }
+}
+
 pub fn max_output_len(src: u32, dst: u32, lengths: &[u32], answers: &mut [u64]) -> usize {
     unsafe {
         morkhetta_max_output_len(
@@ -130,7 +203,6 @@ pub fn max_output_len(src: u32, dst: u32, lengths: &[u32], answers: &mut [u64]) 
     }
 }
 
-#[cfg(receiver)]
 pub fn receive(
     rate: u32,
     role: u32,
@@ -158,7 +230,6 @@ pub fn receive(
     }
 }
 
-#[cfg(state)]
 pub fn receiver_state(
     rate: u32,
     role: u32,
@@ -180,7 +251,6 @@ pub fn receiver_state(
     }
 }
 
-#[cfg(sender)]
 pub fn send(
     rate: u32,
     role: u32,
@@ -205,7 +275,63 @@ pub fn send(
     }
 }
 
-#[cfg(board)]
+pub fn sender_state(
+    rate: u32,
+    role: u32,
+    data: &[u8],
+    script: &[u64],
+    samples: &mut [f32],
+    answers: &mut [u64],
+    state: &mut [f64],
+) -> usize {
+    unsafe {
+        morkhetta_sender_state(
+            rate,
+            role,
+            data.as_ptr(),
+            data.len(),
+            script.as_ptr(),
+            script.len(),
+            samples.as_mut_ptr(),
+            samples.len(),
+            answers.as_mut_ptr(),
+            answers.len(),
+            state.as_mut_ptr(),
+            state.len(),
+        )
+    }
+}
+
+pub fn frame_bytes(bytes: &[u8], bits: &mut [u8]) -> usize {
+    unsafe { morkhetta_frame_bytes(bytes.as_ptr(), bytes.len(), bits.as_mut_ptr(), bits.len()) }
+}
+
+pub fn deframe(
+    in_frame: u32,
+    bit_count: u32,
+    acc: u32,
+    errors: u32,
+    bits: &[u8],
+    answers: &mut [u64],
+) -> usize {
+    unsafe {
+        morkhetta_deframe(
+            in_frame,
+            bit_count,
+            acc,
+            errors,
+            bits.as_ptr(),
+            bits.len(),
+            answers.as_mut_ptr(),
+            answers.len(),
+        )
+    }
+}
+
+pub fn board_refusal(rate: u32, station: u16) -> u32 {
+    unsafe { morkhetta_board_refusal(rate, station) }
+}
+
 pub fn listen(
     rate: u32,
     station: u16,

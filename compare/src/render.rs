@@ -1,12 +1,12 @@
 //! A call as a WAV file on standard output, for programs that hear recordings:
-//! two tide lines for station 7, or what the sender makes of a file's bytes.
+//! two tide lines for station 7, or what `send` makes of a file's bytes.
 
 use std::io::Write;
 use std::process::ExitCode;
 
 use crate::cases::{bits_of, SenderCase};
 use crate::layout::*;
-use crate::side::{ORIGINAL, PORT};
+use crate::side::ORIGINAL;
 use crate::signal::{Modulation, Tape, Tones, Wave};
 
 /// Two of document 01's lines: one that is shown, one for newer readers.
@@ -29,20 +29,25 @@ pub fn run(rate: u32, role: u32, float: bool) -> ExitCode {
     print(&wav(rate, float, &tape.finish()))
 }
 
-/// The bytes of a file, 400 at most, between idle marks, as the port's sender
-/// sends them, or the original's where the port exports none. 32-bit floats.
-pub fn say(file: &str, rate: u32, role: u32) -> ExitCode {
-    let data = match std::fs::read(file) {
-        Ok(data) if data.len() <= 400 => data,
-        Ok(_) => return failed("more than 400 bytes"),
+/// The call that the program `send` makes of a file's bytes, 64 at most, as the
+/// original's sender sends it: idle mark, a training character, idle mark, a
+/// line end, the bytes, idle mark.
+pub fn call(file: &str, rate: u32, role: u32, float: bool) -> ExitCode {
+    let text = match std::fs::read(file) {
+        Ok(text) if text.len() <= 64 => text,
+        Ok(_) => return failed("more than 64 bytes"),
         Err(e) => return failed(&format!("{file}: {e}")),
     };
-    let samples = (90 + 10 * data.len()) * rate as usize / 300;
-    let mut script = vec![AMPLITUDE, bits_of(0.5), IDLE_MARK, 40, WRITE, data.len() as u64];
+    let bits = 300 + 10 + 60 + 10 + 10 * text.len() + 60;
+    let samples = (bits * rate as usize + 150) / 300;
+    let mut script =
+        vec![AMPLITUDE, bits_of(0.5), IDLE_MARK, 300, WRITE, 1, IDLE_MARK, 60, WRITE, 1];
+    script.extend([WRITE, text.len() as u64]);
     script.extend([READ, 1_000].repeat(samples.div_ceil(1_000)));
+    let data = [b"\x55\n", &text[..]].concat();
     let case = SenderCase::whole(rate, role, data, script, samples);
-    let sent = case.run(&PORT).or_else(|| case.run(&ORIGINAL)).expect("the original sends");
-    print(&wav(rate, true, &sent.samples))
+    let sent = case.run(&ORIGINAL);
+    print(&wav(rate, float, &sent.samples))
 }
 
 fn print(wav: &[u8]) -> ExitCode {
@@ -59,24 +64,33 @@ fn failed(words: &str) -> ExitCode {
 
 fn wav(rate: u32, float: bool, samples: &[f32]) -> Vec<u8> {
     let (format, width): (u16, u16) = if float { (3, 4) } else { (1, 2) };
-    let size = samples.len() as u32 * u32::from(width);
+    let frames = samples.len() as u32;
+    let size = frames * u32::from(width);
+    // Floats have an extension of no bytes, and a chunk with their number.
+    let (more, format_size): (u32, u32) = if float { (50, 18) } else { (36, 16) };
     let mut wav = b"RIFF".to_vec();
-    wav.extend((36 + size).to_le_bytes());
+    wav.extend((more + size).to_le_bytes());
     wav.extend(b"WAVEfmt ");
-    wav.extend(16u32.to_le_bytes());
+    wav.extend(format_size.to_le_bytes());
     wav.extend(format.to_le_bytes());
     wav.extend(1u16.to_le_bytes());
     wav.extend(rate.to_le_bytes());
     wav.extend((rate * u32::from(width)).to_le_bytes());
     wav.extend(width.to_le_bytes());
     wav.extend((8 * width).to_le_bytes());
+    if float {
+        wav.extend(0u16.to_le_bytes());
+        wav.extend(b"fact");
+        wav.extend(4u32.to_le_bytes());
+        wav.extend(frames.to_le_bytes());
+    }
     wav.extend(b"data");
     wav.extend(size.to_le_bytes());
     for s in samples {
         if float {
             wav.extend(s.to_le_bytes());
         } else {
-            wav.extend(((s * 32_767.0).round() as i16).to_le_bytes());
+            wav.extend(((f64::from(*s) * 32_767.0).round() as i16).to_le_bytes());
         }
     }
     wav

@@ -8,7 +8,7 @@ use std::ops::Range;
 use std::time::{Duration, Instant};
 
 use crate::cases::{ReceiverCase, ResamplerCase, SenderCase};
-use crate::difference::{of_heard, of_resampled, of_sent, Difference};
+use crate::difference::{of_heard, of_resampled, of_sent, of_stopped, Difference};
 use crate::layout::{CALL, ORIGINATE, READ, SENT, STEP, TOLD, WRITE};
 use crate::side::{ORIGINAL, PORT};
 
@@ -116,7 +116,7 @@ fn without<T: Clone>(list: &[T], some: Range<usize>) -> Vec<T> {
 
 impl Case for ReceiverCase {
     fn difference(&self) -> Difference {
-        of_heard(&self.run(&ORIGINAL)?, &self.run(&PORT)?)
+        of_heard(&self.run(&ORIGINAL), &self.run(&PORT))
     }
 
     const WAYS: usize = 6;
@@ -234,7 +234,8 @@ impl ResamplerCase {
 
 impl Case for SenderCase {
     fn difference(&self) -> Difference {
-        of_sent(&self.run(&ORIGINAL)?, &self.run(&PORT)?)
+        of_sent(&self.run(&ORIGINAL), &self.run(&PORT))
+            .or_else(|| of_stopped(&self.stop(&ORIGINAL), &self.stop(&PORT)))
     }
 
     const WAYS: usize = 2;

@@ -94,9 +94,6 @@ pub fn run(options: &Options) -> ExitCode {
 }
 
 fn receiver(options: &Options) -> Result<String, String> {
-    if PORT.receive.is_none() {
-        return Ok("receiver: not run, as the port exports none".into());
-    }
     let (mut ran, mut all, mut index) = (0, Tally::default(), 0);
     while ran < options.samples {
         for (len, tally) in workers::all(index..index + ROUND, |index| one_call(options, index))? {
@@ -158,16 +155,13 @@ fn damage(case: &mut ReceiverCase, random: &mut Random) {
 const SAMPLES_A_SCRIPT: usize = 100_000;
 
 fn sender(options: &Options) -> Result<String, String> {
-    if PORT.send.is_none() {
-        return Ok("sender: not run, as the port exports none".into());
-    }
     let scripts = options.samples / SAMPLES_A_SCRIPT;
     let tallies = workers::all(0..scripts, |index| {
         let mut random = Random::of_case(options.seed ^ 0x5445_5854, index as u64);
         let case = SenderCase::random(index, &mut random);
         let name = format!("script {index} of seed {}: ", options.seed);
         let sent = check_sender(&case, &name).map_err(|found| found.words)?;
-        Ok::<_, String>(sent.map_or_else(SentTally::default, |sent| SentTally::of(&case, &sent)))
+        Ok::<_, String>(SentTally::of(&case, &sent))
     })?;
     let mut all = SentTally::default();
     tallies.iter().for_each(|tally| all.join(tally));
@@ -177,9 +171,6 @@ fn sender(options: &Options) -> Result<String, String> {
 
 /// At rates from 8,000 to 48,000, equally far apart, in both roles by turns.
 fn loops(options: &Options) -> Result<String, String> {
-    if PORT.send.is_none() || PORT.receive.is_none() {
-        return Ok("from sender to receiver: not run, as the port does not export both".into());
-    }
     let runs = options.samples / SAMPLES_A_SCRIPT;
     workers::all(0..runs, |index| {
         let mut random = Random::of_case(options.seed ^ 0x4C4F_4F50, index as u64);
@@ -194,10 +185,6 @@ fn loops(options: &Options) -> Result<String, String> {
 /// From sender to receiver at each STEPth rate, so many bytes at each, in both
 /// roles by turns.
 pub fn loops_at(step: usize, bytes: usize) -> ExitCode {
-    if PORT.send.is_none() || PORT.receive.is_none() || step == 0 {
-        println!("not run: the port does not export both, or the step is 0");
-        return ExitCode::FAILURE;
-    }
     let begun = Instant::now();
     let runs = 40_000 / step + 1;
     let heard = workers::all(0..runs, |index| {

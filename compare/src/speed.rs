@@ -15,13 +15,12 @@ use original::tx::Tx;
 
 use crate::cases::bits_of;
 use crate::clock;
-#[cfg(board)]
 use crate::judge::Judge;
 use crate::layout::*;
 use crate::oracle::config;
 use crate::port;
 use crate::random::Random;
-use crate::side::{Receive, Send, PORT};
+use crate::side::PORT;
 use crate::signal::{Modulation, Tape, Tones, Wave};
 
 /// An odd number, for the median.
@@ -41,21 +40,20 @@ pub fn run(part: &str) -> ExitCode {
             resampler(src, dst, 1_024);
         }
     }
-    if let (Some(receive), true) = (PORT.receive, wanted("receiver")) {
+    if wanted("receiver") {
         for rate in [8_000, 44_100, 48_000] {
             for block in [1_024, 64] {
-                receiver(receive, rate, block);
+                receiver(rate, block);
             }
         }
     }
-    if let (Some(send), true) = (PORT.send, wanted("sender")) {
+    if wanted("sender") {
         for rate in [8_000, 8_001, 11_025, 22_050, 44_100, 48_000] {
             for block in [1_024, 441, 64] {
-                sender(send, rate, block);
+                sender(rate, block);
             }
         }
     }
-    #[cfg(board)]
     if wanted("board") {
         for rate in [8_000, 44_100, 48_000] {
             for block in [1_024, 64] {
@@ -69,14 +67,10 @@ pub fn run(part: &str) -> ExitCode {
 /// The sender in blocks of 64 at each rate that is so many above another, from
 /// the lowest to the highest, and the largest ratio of medians among them.
 pub fn rates(apart: usize) -> ExitCode {
-    let Some(send) = PORT.send else {
-        println!("the library has no sender");
-        return ExitCode::SUCCESS;
-    };
     println!("median of {RUNS} runs in turns, nanoseconds a sample; port = {}", PORT.name);
     let (mut slowest, mut at) = (0.0, 0);
     for rate in (8_000..=48_000).step_by(apart) {
-        let ratio = sender(send, rate, 64);
+        let ratio = sender(rate, 64);
         if slowest < ratio {
             (slowest, at) = (ratio, rate);
         }
@@ -126,7 +120,7 @@ fn resampler(src: u32, dst: u32, block: u32) {
     );
 }
 
-fn receiver(receive: Receive, rate: u32, block: u32) {
+fn receiver(rate: u32, block: u32) {
     let samples = line(rate, b"TIDE", LINE);
     let script = [block, 600, 100].repeat(samples.len().div_ceil(block as usize));
     let (mut bytes, mut events) = (vec![0; 1_000], vec![0; 100]);
@@ -148,14 +142,22 @@ fn receiver(receive: Receive, rate: u32, block: u32) {
             }
         },
         &mut || {
-            receive(rate, ORIGINATE, &samples, &script, &mut bytes, &mut events, &mut answers);
+            port::receive(
+                rate,
+                ORIGINATE,
+                &samples,
+                &script,
+                &mut bytes,
+                &mut events,
+                &mut answers,
+            );
         },
     );
     // The original's answers count as used.
     std::hint::black_box(seen);
 }
 
-fn sender(send: Send, rate: u32, block: usize) -> f64 {
+fn sender(rate: u32, block: usize) -> f64 {
     let mut samples = vec![0.0; (rate * LINE) as usize];
     let mut script = vec![AMPLITUDE, bits_of(0.5), WRITE, 60];
     script.extend([READ, block as u64].repeat(samples.len().div_ceil(block)));
@@ -176,7 +178,7 @@ fn sender(send: Send, rate: u32, block: usize) -> f64 {
             }
         },
         &mut || {
-            send(rate, ORIGINATE, &data, &script, &mut samples, &mut answers);
+            port::send(rate, ORIGINATE, &data, &script, &mut samples, &mut answers);
         },
     );
     std::hint::black_box(waits);
@@ -185,7 +187,6 @@ fn sender(send: Send, rate: u32, block: usize) -> f64 {
 
 /// The board against the original's receiver with the judge of `judge.rs`
 /// behind it, which is not the Rust's but ours.
-#[cfg(board)]
 fn board(rate: u32, block: u32) {
     // Two whole lines at least.
     let samples = line(rate, b"01010D000700C0000005019C88\n", 3 * LINE);

@@ -57,6 +57,25 @@ impl Tally {
         }
     }
 
+    pub fn any(&self) -> bool {
+        self.cases > 0
+    }
+
+    /// What a whole comparison must bring about.
+    pub fn reached(&self) -> Vec<(&'static str, bool)> {
+        let refused = |number| self.refused.contains_key(&number);
+        vec![
+            ("a byte", self.bytes > 0),
+            ("a framing error", self.errors > 0),
+            ("a carrier that rises", self.ups > 0),
+            ("a carrier that is lost", self.downs > 0),
+            ("a queue of events that overflows", self.overflows > 0),
+            ("refusal 3", refused(3)),
+            ("refusal 4", refused(4)),
+            ("refusal 32", refused(32)),
+        ]
+    }
+
     pub fn heading() {
         println!(
             "{:30} {:>5} {:>7} {:>8} {:>7} {:>7} {:>5} {:>5} {:>5}  refused",
@@ -112,6 +131,18 @@ impl SentTally {
         for (&number, &n) in &other.refused {
             *self.refused.entry(number).or_default() += n;
         }
+    }
+
+    /// What a whole comparison must bring about.
+    pub fn reached(&self) -> Vec<(&'static str, bool)> {
+        let refused = |number| self.refused.contains_key(&number);
+        vec![
+            ("bits that wait", self.waits > 0),
+            ("refusal 3", refused(3)),
+            ("refusal 6", refused(6)),
+            ("refusal 7", refused(7)),
+            ("refusal 33", refused(33)),
+        ]
     }
 
     pub fn words(&self) -> String {

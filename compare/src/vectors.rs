@@ -72,7 +72,7 @@ fn around_news(rate: u32, role: u32, tape: Tape) -> ReceiverCase {
     let samples = tape.finish();
     let script = all(1).repeat(samples.len());
     let mut case = ReceiverCase { rate, role, samples, script };
-    let heard = case.run(&ORIGINAL).expect("the original hears");
+    let heard = case.run(&ORIGINAL);
     let mut reports = [0; 2];
     let mut ends = Vec::new();
     for (i, answer) in heard.answers.chunks_exact(HEARD).enumerate() {
@@ -112,7 +112,7 @@ fn add(text: &mut Text, words: &str, case: &ReceiverCase) {
 }
 
 fn add_with(text: &mut Text, case: &ReceiverCase, remarks: &[Remark]) {
-    text.receiver(case, &case.run(&ORIGINAL).expect("the original hears"), remarks);
+    text.receiver(case, &case.run(&ORIGINAL), remarks);
 }
 
 /// The rates at the ends of the range, and those just outside.
@@ -268,7 +268,7 @@ fn many_events(text: &mut Text) {
 fn waiting(case: &ReceiverCase) -> u64 {
     let mut case = case.clone();
     case.script.extend(all(0));
-    let heard = case.run(&ORIGINAL).expect("the original hears");
+    let heard = case.run(&ORIGINAL);
     heard.answers[heard.answers.len() - HEARD + 1]
 }
 
@@ -469,7 +469,7 @@ fn add_sender(text: &mut Text, rate: u32, role: u32, steps: &[[u64; STEP]]) {
     let data = [0x41, 0xFF, 0x00, 0x55, 0x0A].into_iter().cycle();
     let data = data.take(total(WRITE) as usize).collect();
     let case = SenderCase::whole(rate, role, data, steps.concat(), total(READ) as usize);
-    text.sender(&case, &case.run(&ORIGINAL).expect("the original sends"));
+    text.sender(&case, &case.run(&ORIGINAL));
 }
 
 fn sent_bytes(amplitude: f32) -> Vec<[u64; STEP]> {

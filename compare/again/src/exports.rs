@@ -29,6 +29,32 @@ unsafe extern "C" fn morkhetta_resample(
 }
 
 #[no_mangle]
+unsafe extern "C" fn morkhetta_resampler_state(
+    src: u32,
+    dst: u32,
+    input: *const f64,
+    input_len: usize,
+    script: *const u32,
+    script_len: usize,
+    output: *mut f64,
+    output_len: usize,
+    answers: *mut u64,
+    answers_len: usize,
+    state: *mut f64,
+    state_len: usize,
+) -> usize {
+    oracle::resampler_state(
+        src,
+        dst,
+        from_raw_parts(input, input_len),
+        from_raw_parts(script, script_len),
+        from_raw_parts_mut(output, output_len),
+        from_raw_parts_mut(answers, answers_len),
+        from_raw_parts_mut(state, state_len),
+    )
+}
+
+#[no_mangle]
 unsafe extern "C" fn morkhetta_max_output_len(
     src: u32,
     dst: u32,
@@ -112,6 +138,68 @@ unsafe extern "C" fn morkhetta_send(
         from_raw_parts_mut(samples, samples_len),
         from_raw_parts_mut(answers, answers_len),
     )
+}
+
+#[no_mangle]
+unsafe extern "C" fn morkhetta_sender_state(
+    rate: u32,
+    role: u32,
+    data: *const u8,
+    data_len: usize,
+    script: *const u64,
+    script_len: usize,
+    samples: *mut f32,
+    samples_len: usize,
+    answers: *mut u64,
+    answers_len: usize,
+    state: *mut f64,
+    state_len: usize,
+) -> usize {
+    oracle::sender_state(
+        rate,
+        role,
+        from_raw_parts(data, data_len),
+        from_raw_parts(script, script_len),
+        from_raw_parts_mut(samples, samples_len),
+        from_raw_parts_mut(answers, answers_len),
+        from_raw_parts_mut(state, state_len),
+    )
+}
+
+#[no_mangle]
+unsafe extern "C" fn morkhetta_frame_bytes(
+    bytes: *const u8,
+    bytes_len: usize,
+    bits: *mut u8,
+    bits_len: usize,
+) -> usize {
+    oracle::frame_bytes(from_raw_parts(bytes, bytes_len), from_raw_parts_mut(bits, bits_len))
+}
+
+#[no_mangle]
+unsafe extern "C" fn morkhetta_deframe(
+    in_frame: u32,
+    bit_count: u32,
+    acc: u32,
+    errors: u32,
+    bits: *const u8,
+    bits_len: usize,
+    answers: *mut u64,
+    answers_len: usize,
+) -> usize {
+    oracle::deframe(
+        in_frame,
+        bit_count,
+        acc,
+        errors,
+        from_raw_parts(bits, bits_len),
+        from_raw_parts_mut(answers, answers_len),
+    )
+}
+
+#[no_mangle]
+extern "C" fn morkhetta_board_refusal(rate: u32, station: u16) -> u32 {
+    judge::board_refusal(rate, station)
 }
 
 #[no_mangle]

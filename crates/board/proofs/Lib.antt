@@ -1,5 +1,6 @@
 -- The plain board's laws, the third term and the starred examples; then what the proofs of the functions cite.
 pub mod PlainLaws
+pub mod ReceiverLaws
 pub mod Third
 pub mod Starred
 pub mod HostedLaws

@@ -4,19 +4,23 @@ use mathlib.Core.Bool.{false}
 use mathlib.Core.Path.{_≡_, refl, sym, ap, _∙_}
 use mathlib.Core.List.{List, [], _∷_, _++_}
 use native.Mathlib.Omega.{arith}
+use Rattle.happenings.specs.Happening.{bytesIn}
 use Rattle.happenings.specs.declared.happening.Happening.{Happening}
-use lib.ListN.{getD, drop}
+use mathlib.Core.Logic.{_↔_}
+use lib.ListN.{length, getD, drop}
 use lib.Ieee.{Float}
 use Rattle.bell103.specs.declared.Role.{Role}
-use Rattle.hexadecimal.specs.Hex.{hexLine, total}
+use Rattle.hexadecimal.specs.Hex.{hexLine, unhex, total}
 use Rattle.tide.specs.Frame.{readerOf, Intact, Writer, Rules, lineBy}
-use Rattle.tide.specs.Judge.{Reading, Shown, none, shows, Verdict, judge, Passes}
+use Rattle.tide.specs.Judge.{Reading, Shown, none, shows, Verdict, judge, Passes, Readable, Past17}
 use Rattle.tide.specs.Decoder.{Line, Decoder, freshDecoder, place, tookAll, linesIn, verdictsIn, answersOn, times, Below, AtMost, Best, SinceFresh}
 use Rattle.tide.proofs.JudgeLaws as judging
 use Rattle.tide.proofs.DecoderLaws as decoders
+use Rattle.tide.proofs.LinesLaws.{lines-of-bytes}
+use Rattle.tide.specs.Lines.{linesOf}
 use Rattle.board.specs.Plain.{Plain, decoder, fresh, afterAll, linesAll, verdictsAll, answersAll, heardAll}
 use Rattle.board.proofs.PlainLaws.{all-decoder, all-lines, all-verdicts, all-ended}
-use Rattle.board.specs.Term.{stands, given, lineOf, onFields, JudgedAs, Term3}
+use Rattle.board.specs.Term.{stands, given, lineOf, onFields, JudgedAs, RunsOn, Term3}
 
 -- the first of some numbers and the others
 total-split : (cs : List ℕ) → total cs ≡ getD cs 0 0 + total (drop 1 cs)
@@ -79,10 +83,29 @@ module _ (b : Plain) (is : decoder b ≡ freshDecoder (b .station)) (ws : List (
   as-said ls l v e k = rw (← e) k
 
   written-at : (ls rs : List Line) (l : Line) → linesAll b ws ≡ ls ++ l ∷ rs → Passes (l .chars) (l .more)
-      → (w : Writer) × Rules w × (l ≡ lineOf (lineBy w))
+      → (w : Writer) × Rules w × (w .reader ≡ readerOf (unhex (l .chars))) × (l ≡ lineOf (lineBy w))
   written-at ls rs l e p =
       let k = claims .writers ls rs l (sym lines-are ∙ e) p in
-      (k .0, k .1, line-is l (lineBy (k .0)) (k .2) (k .3))
+      (k .0, k .1, k .2, line-is l (lineBy (k .0)) (k .3) (k .4))
+
+  readable-at : (ls rs : List Line) (l : Line) → linesAll b ws ≡ ls ++ l ∷ rs → Readable (l .chars) (l .more)
+      → (w : Writer) × Rules w × (w .reader ≡ 1) × (l ≡ lineOf (lineBy w))
+  readable-at ls rs l e r =
+      let k = judging.readable-writer (l .chars) (l .more) r in
+      (k .0, k .1, k .2, line-is l (lineBy (k .0)) (k .3) (k .4))
+
+  covered-at : (ls rs : List Line) (l : Line) → linesAll b ws ≡ ls ++ l ∷ rs
+      → Past17 (getD (verdictsAll b ws) (length ls) 0) ↔ Readable (l .chars) (l .more)
+  covered-at ls rs l e = rw (each-at ls rs l e .answer) (judging.readable-answer station (stands station ls) (l .chars) (l .more))
+
+  lines-split : linesAll b ws ≡ linesOf (bytesIn all)
+  unfolding freshDecoder
+  lines-split = lines-are ∙ lines-of-bytes all (freshDecoder station) refl
+
+  runs-on : RunsOn b ws (afterAll b ws)
+  runs-on =
+      let k = decoders.runs-on (decoder b) all in
+      record { board = all-decoder b ws ∙ k .0; lines = all-lines b ws ∙ k .1; verdicts = all-verdicts b ws ∙ k .2 }
 
   counted-17 : (ls : List Line) (f : List ℕ) → Intact f → 1 < readerOf f
       → times 17 (given station (ls ++ lineOf (hexLine f) ∷ [])) ≡ times 17 (given station ls) + 1
@@ -95,6 +118,8 @@ module _ (b : Plain) (is : decoder b ≡ freshDecoder (b .station)) (ws : List (
       record {
         board = refl;
         answers = refl;
+        lines = lines-split;
+        runsOn = runs-on;
         reading = rw (lines-are, reading-is) (claims .reading);
         empty = rw (lines-are, reading-is) (claims .empty);
         greatest = λ x e. rw (lines-are) (best-most _ _ x (sym reading-is ∙ e) (claims .reading));
@@ -106,6 +131,8 @@ module _ (b : Plain) (is : decoder b ≡ freshDecoder (b .station)) (ws : List (
         each = λ ls rs l e. each-at ls rs l e;
         fields = λ ls rs w e k r. as-said ls (lineOf (lineBy w)) _ (unfold onFields in judging.fields w k station (stands station ls) r) (each-at ls rs (lineOf (lineBy w)) e);
         written = written-at;
+        readable = readable-at;
+        covered = covered-at;
         alike = λ v w c d a m r p q. decoders.alike c d v w (a .rules .0) (a .rules .1) (a .readers .0) (a .readers .1) (a .station) (a .stamp) (a .age) (a .level) m r p q;
         newer = λ ls rs f e i h. (as-said ls (lineOf (hexLine f)) _ (judging.judge-newer station (stands station ls) f i h) (each-at ls rs (lineOf (hexLine f)) e), counted-17 ls f i h);
       }

@@ -107,6 +107,11 @@ unfoldable pub afterAll : Plain → List (List Float) → Plain
 afterAll b [] = b
 afterAll b (s ∷ ws) = afterAll (after b s) ws
 
+-- the writes among them that are accepted
+unfoldable pub takenIn : Plain → List (List Float) → List (List Float)
+takenIn b [] = []
+takenIn b (s ∷ ws) = (if accepts b s then s ∷ [] else []) ++ takenIn (after b s) ws
+
 -- all that happened in them
 unfoldable pub heardAll : Plain → List (List Float) → List Happening
 heardAll b [] = []

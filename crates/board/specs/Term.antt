@@ -7,11 +7,14 @@ use mathlib.Core.List.{List, [], _∷_, _++_}
 use lib.IntN.{ℤ}
 use lib.ListN.{length, getD, drop}
 use lib.Ieee.{Float}
-use Rattle.hexadecimal.specs.Hex.{hexLine, total}
+use Rattle.hexadecimal.specs.Hex.{hexLine, unhex, total}
+use Rattle.happenings.specs.Happening.{bytesIn, typed}
+use Rattle.happenings.specs.declared.happening.Happening.{Happening}
 use Rattle.tide.specs.Frame.{readerOf, Intact, Writer, Rules, bitsOf, lineBy}
-use Rattle.tide.specs.Judge.{Reading, Shown, none, shows, Verdict, judge, settle, ofFields, Passes}
-use Rattle.tide.specs.Decoder.{Line, Decoder, IsAnswer, countOf, verdict, shownOn, answersOn, times, goods, AtMost, Best}
-use Rattle.board.specs.Plain.{Plain, decoder, Answer, afterAll, linesAll, verdictsAll, answersAll, endedIn}
+use Rattle.tide.specs.Judge.{Reading, Shown, none, shows, Verdict, judge, settle, ofFields, Passes, Readable, Past17}
+use Rattle.tide.specs.Decoder.{Line, Decoder, IsAnswer, countOf, verdict, tookAll, linesIn, verdictsIn, shownOn, answersOn, times, goods, AtMost, Best}
+use Rattle.tide.specs.Lines.{linesOf}
+use Rattle.board.specs.Plain.{Plain, decoder, Answer, afterAll, heardAll, linesAll, verdictsAll, answersAll, endedIn}
 
 -- ---- the lines judged, in order
 -- what a board of station `mine` shows when it has judged these lines since fresh, and the answers that it gave them
@@ -44,12 +47,31 @@ pub record Alike (v w : Writer) : Type 0 where
   pub age : v .age ≡ w .age
   pub level : v .level ≡ w .level
 
+-- ---- what was heard, in order
+-- all bytes heard in the accepted writes, one after the other, however the writes cut them
+abbrev pub bytesAll : Plain → List (List Float) → List ℕ
+bytesAll fresh ws = bytesIn (heardAll fresh ws)
+
+-- all that happened in them, with every loss of the carrier and every change of the report left out
+abbrev pub bytesAlone : Plain → List (List Float) → List Happening
+bytesAlone fresh ws = typed (bytesAll fresh ws)
+
+-- "a line runs on over a lost carrier": that alone gives the same line, reading and counts, the same lines judged and the same answers
+pub record RunsOn (fresh : Plain) (ws : List (List Float)) (b : Plain) : Type 0 where
+  pub board : decoder b ≡ tookAll (decoder fresh) (bytesAlone fresh ws)
+  pub lines : linesAll fresh ws ≡ linesIn (decoder fresh) (bytesAlone fresh ws)
+  pub verdicts : verdictsAll fresh ws ≡ verdictsIn (decoder fresh) (bytesAlone fresh ws)
+
 -- ---- the term: of a fresh plain board, the writes, the board after them, and the answers given
 pub record Term3 (fresh : Plain) (ws : List (List Float)) (b : Plain) (said : List Answer) : Type 0 where
   -- the board after the writes is the plain board's, which "is fed the calls' arguments alone"
   pub board : b ≡ afterAll fresh ws
   -- every answer is the plain board's
   pub answers : said ≡ answersAll fresh ws
+  -- the lines judged are those of all bytes heard: what stands before each 0A, "its first 64 characters and whether there were more"
+  pub lines : linesAll fresh ws ≡ linesOf (bytesAll fresh ws)
+  -- "a line runs on over a lost carrier"
+  pub runsOn : RunsOn fresh ws b
   -- the reading is the good line with the greatest water minute, the earliest among equals: "greater than that of every good line judged
   -- before it", and at least that of every one behind it
   pub reading : Best (goods (fresh .station) (linesAll fresh ws)) (b .reading)
@@ -77,10 +99,18 @@ pub record Term3 (fresh : Plain) (ws : List (List Float)) (b : Plain) (said : Li
       (ls rs : List Line) (w : Writer) → linesAll fresh ws ≡ ls ++ lineOf (lineBy w) ∷ rs → Rules w → w .reader ≡ 1
       → JudgedAs (fresh .station) (verdictsAll fresh ws) ls (lineOf (lineBy w))
       (onFields (fresh .station) (stands (fresh .station) ls) (w .station) (w .stamp) (w .age) (w .level))
-  -- "A line that passes 11 to 16 is intact": each judged line that does is one that some writer wrote, so that none is left out above and below
+  -- "A line that passes 11 to 16 is intact": each judged line that does is one that some writer wrote, for readers from its F on
   pub written :
       (ls rs : List Line) (l : Line) → linesAll fresh ws ≡ ls ++ l ∷ rs → Passes (l .chars) (l .more)
-      → (w : Writer) × Rules w × (l ≡ lineOf (lineBy w))
+      → (w : Writer) × Rules w × (w .reader ≡ readerOf (unhex (l .chars))) × (l ≡ lineOf (lineBy w))
+  -- and each that passes 17 too is one that a writer wrote for readers from 1 on, so that `fields` speaks of it
+  pub readable :
+      (ls rs : List Line) (l : Line) → linesAll fresh ws ≡ ls ++ l ∷ rs → Readable (l .chars) (l .more)
+      → (w : Writer) × Rules w × (w .reader ≡ 1) × (l ≡ lineOf (lineBy w))
+  -- these are the lines that get an answer other than 11 to 17, and no others
+  pub covered :
+      (ls rs : List Line) (l : Line) → linesAll fresh ws ≡ ls ++ l ∷ rs
+      → Past17 (getD (verdictsAll fresh ws) (length ls) 0) ↔ Readable (l .chars) (l .more)
   -- two such lines alike in these, on boards alike in station and reading: one answer, and one reading after it
   pub alike :
       (v w : Writer) (c d : Decoder) → Alike v w → c .station ≡ d .station → c .reading ≡ d .reading

@@ -25,8 +25,8 @@ pub struct Board {
 
 // What `new` answers, and the board; refused 1 it gives the one at 8,000, refused 2 the one of station 0.
 pub struct Created {
-    pub answer: Acceptance,
     pub state: Board,
+    pub answer: Acceptance,
 }
 
 // Of an accepted write: bytes heard, lines ended, and the last one's answer, 0 also when none ended.
@@ -43,8 +43,8 @@ pub enum Answer {
 }
 
 pub struct Written {
-    pub answer: Answer,
     pub state: Board,
+    pub answer: Answer,
 }
 
 fn no_codes() -> [u16; 2052]

@@ -14,6 +14,7 @@ mod writes;
 pub use board::Answer;
 pub use board::Board;
 pub use board::Created;
+pub use board::Summary;
 pub use board::Written;
 pub use writes::Listened;
 pub use writes::listen;

@@ -17,9 +17,9 @@ ghost use Rattle.board.specs.Runs.{width, numbersOf, Within, Stepped, Ru
 
 // What `listen` answers: `new`'s answer, how many writes it ran, and the board after them.
 pub struct Listened {
+    pub state: Board,
     pub answer: Acceptance,
     pub writes: usize,
-    pub state: Board,
 }
 
 fn numbers_of(answer: Answer) -> Numbers

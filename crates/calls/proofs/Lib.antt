@@ -7,3 +7,4 @@ pub mod Steps
 pub mod Showing
 pub mod Made
 pub mod ReceiveLaws
+pub mod FrameCalls

@@ -1,7 +1,7 @@
 -- Calls of the sender, one after the other, over lists. Assumes nothing.
 use Prim.Native.Nat.{ℕ, suc, min, _+_, _*_, _-_, _≤_}
 use mathlib.Core.Path.{_≡_, refl, sym, ap, _∙_}
-use mathlib.Core.Bool.{true, false}
+use mathlib.Core.Bool.{Bool, true, false}
 use mathlib.Core.List.{List, [], _∷_, _++_, append-assoc}
 use native.Mathlib.Nat.{add-zero, sub-zero}
 use native.Mathlib.Numerals.{add-one}
@@ -10,15 +10,17 @@ use lib.ListN.{length, getD, set, take, drop, length-append, length-drop, take-a
 use lib.Seq.{drop-drop, getD-drop, length-take-le, sets-eq}
 use lib.Ieee.{Float}
 use Rattle.numeric.proofs.Parts.{part-next, part-left, put-front, put-behind}
-use Rattle.refusal.specs.Refusals.{given, refused, rateRefused}
+use Rattle.refusal.specs.Refusals.{Reply, given, refused, rateRefused, dspRate}
 use Rattle.bell103.specs.declared.Role.{Role}
 use Rattle.modulation.specs.Tx.{Sender, pendingOf, freshSender, Made, made, newOf}
 use Rattle.modulation.specs.TxRep.{senderOf, TxSound}
 use Rattle.calls.proofs.Made.{accepted-only, refused-only}
 use Rattle.calls.specs.Answers.{bit}
-use Rattle.calls.specs.Resample.{ran, after}
-use Rattle.calls.proofs.Calls.{after-after, after-start}
-use Rattle.calls.specs.Send.{Outcome, called, bytesFor, placesFor, reply, sentFrom}
+use Rattle.calls.specs.Resample.{Run, ran, after}
+use Rattle.calls.specs.Roles.{roleOf}
+use Rattle.numeric.specs.If.{if_then_else_}
+use Rattle.calls.proofs.Calls.{after-after, after-start, kind-at, unrun}
+use Rattle.calls.specs.Send.{Outcome, called, bytesFor, placesFor, reply, callsFor, sentFrom, senderAfter, sendRun, sent, senderRun}
 use Rattle.calls.specs.SendSteps.{outcomeOf, Within, calledAt, Stepped}
 use Rattle.calls.specs.declared.send.Called.{Called}
 use Rattle.calls.specs.declared.send.Place.{Place}
@@ -98,20 +100,12 @@ module _ (script : List ℕ) (i : ℕ) (ans ans′ : List ℕ) (room : 3 * i + 3
   unanswered : drop (3 * (i + 1)) ans′ ≡ drop 3 (drop (3 * i) ans)
   unanswered = rw (step .answers, three, drop-drop 3 (3 * i) ans) (put-behind ans (reply gives) (drop (3 * i + 3) ans) (3 * i) (omega arith))
 
-  unrun : drop (2 * (i + 1)) script ≡ drop 2 (drop (2 * i) script)
-  unrun =
-      let two : 2 * (i + 1) ≡ 2 * i + 2 = omega arith in
-      rw (two, drop-drop 2 (2 * i) script)
-
-  first-of : getD (drop (2 * i) script) 0 0 ≡ getD script (2 * i) 0
-  first-of = getD-drop (2 * i) script 0 0 ∙ rw (add-zero (2 * i))
-
   step-is : (k : ℕ)
       → after (i + 1) (take (q .written) out′) (take (3 * (i + 1)) ans′) (sentFrom k (senderOf (q .state)) (drop (q .read) bytes) (drop (2 * (i + 1)) script) (drop (q .written) out′) (drop (3 * (i + 1)) ans′))
       ≡ after i (take (p .written) out) (take (3 * i) ans) (sentFrom (suc k) (senderOf (p .state)) (drop (p .read) bytes) (drop (2 * i) script) (drop (p .written) out) (drop (3 * i) ans))
   unfolding sentFrom
   step-is k =
-      rw (step .front, step .rest, answered, unanswered, unrun, step .state, step .left, first-of, getD-drop (2 * i) script 1 0)
+      rw (step .front, step .rest, answered, unanswered, unrun script i, step .state, step .left, kind-at script i, getD-drop (2 * i) script 1 0)
       (sym (after-after i 1 (take (p .written) out) (gives .part) (take (3 * i) ans) (reply gives) _))
 
   -- m calls were left
@@ -120,6 +114,12 @@ module _ (script : List ℕ) (i : ℕ) (ans ans′ : List ℕ) (room : 3 * i + 3
       ≡ after i (take (p .written) out) (take (3 * i) ans) (sentFrom m (senderOf (p .state)) (drop (p .read) bytes) (drop (2 * i) script) (drop (p .written) out) (drop (3 * i) ans))
   send-step k m e = rw e (step-is k)
 
+  pub sender-step : (k m : ℕ) → m ≡ suc k
+      → senderAfter k (senderOf (q .state)) (drop (q .read) bytes) (drop (2 * (i + 1)) script) (drop (q .written) out′)
+      ≡ senderAfter m (senderOf (p .state)) (drop (p .read) bytes) (drop (2 * i) script) (drop (p .written) out)
+  unfolding senderAfter
+  sender-step k m e = rw (e, step .rest, unrun script i, step .state, step .left, kind-at script i, getD-drop (2 * i) script 1 0)
+
 -- the last of j calls
 pub send-end : (i j : ℕ) → i ≡ j → (s : Sender) (bytes script : List ℕ) (out : List Float) (ans : List ℕ) (w a : ℕ)
     → after i (take w out) (take a ans) (sentFrom (j - i) s bytes script (drop w out) (drop a ans)) ≡ ran j out ans
@@ -127,6 +127,15 @@ unfolding sentFrom
 send-end i j is s bytes script out ans w a =
     let z : j - i ≡ 0 = omega arith in
     rw (z, add-zero i, take-append-drop w out, take-append-drop a ans, is)
+
+pub sender-start : (k : ℕ) (s : Sender) (bytes script : List ℕ) (out : List Float) → senderAfter (k - 0) s bytes script out ≡ senderAfter k s bytes script out
+sender-start k s bytes script out = rw (sub-zero k)
+
+pub sender-end : (i j : ℕ) → i ≡ j → (s : Sender) (bytes script : List ℕ) (out : List Float) → senderAfter (j - i) s bytes script out ≡ s
+unfolding senderAfter
+sender-end i j is s bytes script out =
+    let z : j - i ≡ 0 = omega arith in
+    rw z
 
 -- ---- the rate, as `new` judges it
 module _ (rate : ℕ) (role : Role) (s : Sender) where
@@ -137,3 +146,32 @@ module _ (rate : ℕ) (role : Role) (s : Sender) where
   pub rate-refused : (k : ℕ) → made (refused k) s ≡ newOf rate role → rateRefused rate ≡ true
   unfolding newOf
   rate-refused k e = refused-only (λ (m : Made). m .answer) k _ _ _ (rateRefused rate) refl refl e
+
+-- what a script gives, by the answer of `new`
+module _ (rate role : ℕ) (r : Role) (role-is : r ≡ roleOf role) (a : Reply Unit) (s : Sender) (new : made a s ≡ newOf rate r) (bytes script : List ℕ) (out : List Float) (ans : List ℕ) where
+  pub sender-refused : (k : ℕ) → a ≡ refused k → sent a (ran 0 out ans) s ≡ senderRun rate role bytes script out ans
+  unfolding newOf senderRun
+  sender-refused k is =
+      let t = rate-refused rate r s k (rw is at new) in
+      let e : made a s ≡ made (refused 1) (freshSender dspRate r) = new ∙ rw t in
+      rw (t, ← role-is) (ap (λ (m : Made). sent (m .answer) (ran 0 out ans) (m .state)) e)
+
+  pub sender-accepted : (run : Run) (last : Sender) → a ≡ given tt → run ≡ sentFrom (callsFor script ans) s bytes script out ans → last ≡ senderAfter (callsFor script ans) s bytes script out
+      → sent a run last ≡ senderRun rate role bytes script out ans
+  unfolding senderRun
+  sender-accepted run last is run-is last-is =
+      let f = rate-accepted rate r s (rw is at new) in
+      rw (f .0, is, run-is, last-is, f .1, role-is)
+
+-- its run alone
+pub sent-run : (rate role : ℕ) (bytes script : List ℕ) (out : List Float) (ans : List ℕ) → senderRun rate role bytes script out ans .run ≡ sendRun rate role bytes script out ans
+unfolding senderRun sendRun
+sent-run rate role bytes script out ans = by (rateRefused rate)
+  where
+    run : Run
+    run = sentFrom (callsFor script ans) (freshSender rate (roleOf role)) bytes script out ans
+
+    by : (t : Bool) → (if t then sent (refused 1) (ran 0 out ans) (freshSender dspRate (roleOf role)) else sent (given tt) run (senderAfter (callsFor script ans) (freshSender rate (roleOf role)) bytes script out)) .run
+        ≡ (if t then ran 0 out ans else run)
+    by true = refl
+    by false = refl

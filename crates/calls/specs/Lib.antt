@@ -8,3 +8,4 @@ pub mod ReceiveSteps
 pub mod Send
 pub mod SendSteps
 pub mod Shown
+pub mod Frames

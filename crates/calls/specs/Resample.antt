@@ -1,11 +1,12 @@
 -- Whole lists of calls of the resampler, each list from a fresh state. Assumes nothing.
-use Prim.Native.Nat.{ℕ, _+_}
+use Prim.Native.Nat.{ℕ, zero, suc, min, _+_, _/_}
 use mathlib.Core.List.{List, [], _∷_, _++_}
-use lib.ListN.{take, drop}
+use lib.Dec.{eqb}
+use lib.ListN.{length, getD, take, drop}
 use lib.Ieee.{Float}
 use Rattle.numeric.specs.If.{if_then_else_}
-use Rattle.refusal.specs.Refusals.{ratesRefused}
-use Rattle.resampling.specs.Resample.{State, fresh, lenOf, processed}
+use Rattle.refusal.specs.Refusals.{Reply, given, refused, ratesRefused, dspRate}
+use Rattle.resampling.specs.Resample.{State, Outcome, outcome, fresh, resetOf, lenOf, processed}
 use Rattle.calls.specs.Answers.{countIn, reply}
 
 -- what a list of calls leaves: how many were run, the lent output, and the lent answers
@@ -45,3 +46,61 @@ lengthsFrom s (n ∷ ns) (a ∷ b ∷ ans) = after 1 [] (reply (lenOf s n)) (len
 
 unfoldable pub lengthsRun : ℕ → ℕ → List ℕ → List ℕ → Run
 lengthsRun src dst ns ans = if ratesRefused src dst then ran 0 [] ans else lengthsFrom (fresh src dst) ns ans
+
+-- ---- a script: two numbers for each call, its kind and n
+abbrev pub kindIn : List ℕ → ℕ
+kindIn script = getD script 0 0
+
+abbrev pub numberFor : List ℕ → ℕ
+numberFor script = getD script 1 0
+
+-- kind 0 is `process`, any other number `reset`, which writes nothing and refuses nothing
+abbrev pub called : ℕ → State → List Float → List Float → Outcome
+called kind s xs out = if eqb kind 0 then processed s xs out else outcome (given 0) (resetOf s) out
+
+-- the samples that a call of this kind takes, at most
+abbrev pub samplesFor : ℕ → ℕ → ℕ
+samplesFor kind n = if eqb kind 0 then n else 0
+
+abbrev pub samplesIn : List ℕ → ℕ
+samplesIn script = samplesFor (kindIn script) (numberFor script)
+
+-- the first call of a script
+abbrev pub firstOf : List ℕ → State → List Float → List Float → Outcome
+firstOf script s xs out = called (kindIn script) s (take (samplesIn script) xs) out
+
+-- the whole calls of a script that have room for their answers, two numbers each
+abbrev pub callsFor : List ℕ → List ℕ → ℕ
+callsFor script ans = min (length script / 2) (length ans / 2)
+
+-- k calls of a script; samples, output and answers as in `processedFrom`
+unfoldable pub scriptedFrom : ℕ → State → List Float → List ℕ → List Float → List ℕ → Run
+scriptedFrom zero s xs script out ans = ran 0 out ans
+scriptedFrom (suc k) s xs script out ans =
+    let c = firstOf script s xs out in
+    let j = countIn (c .answer) in
+    after 1 (take j (c .out)) (reply (c .answer)) (scriptedFrom k (c .state) (drop (samplesIn script) xs) (drop 2 script) (drop j (c .out)) (drop 2 ans))
+
+-- the resampler after them
+unfoldable pub stateAfter : ℕ → State → List Float → List ℕ → List Float → State
+stateAfter zero s xs script out = s
+stateAfter (suc k) s xs script out =
+    let c = firstOf script s xs out in
+    stateAfter k (c .state) (drop (samplesIn script) xs) (drop 2 script) (drop (countIn (c .answer)) (c .out))
+
+-- what a script leaves: the answer of `new`, the run, and the resampler behind it
+pub record Scripted : Type 0 where
+  pub answer : Reply Unit
+  pub run : Run
+  pub state : State
+
+abbrev pub scripted : Reply Unit → Run → State → Scripted
+scripted a r s = record { answer = a; run = r; state = s }
+
+-- from a fresh resampler on; rates that `new` refuses run no call and write nothing
+unfoldable pub scriptRun : ℕ → ℕ → List Float → List ℕ → List Float → List ℕ → Scripted
+scriptRun src dst xs script out ans =
+    let k = callsFor script ans in
+    let s = fresh src dst in
+    if ratesRefused src dst then scripted (refused 1) (ran 0 out ans) (fresh dspRate dspRate)
+    else scripted (given tt) (scriptedFrom k s xs script out ans) (stateAfter k s xs script out)

@@ -2,15 +2,15 @@
 use Prim.Native.Nat.{ℕ, zero, suc, min, _/_, _%_, _^_}
 use mathlib.Core.List.{List, [], _∷_}
 use lib.Dec.{eqb}
-use lib.ListN.{length, getD, take, drop}
+use lib.ListN.{length, take, drop}
 use lib.Ieee.{Float, binary32, ofBits}
 use Rattle.numeric.specs.If.{if_then_else_}
-use Rattle.refusal.specs.Refusals.{Reply, given, refused, rateRefused}
+use Rattle.refusal.specs.Refusals.{Reply, given, refused, rateRefused, dspRate}
 use Rattle.modulation.specs.Tx.{Sender, Reading, readOf, Adjusted, amplitudeOf, pendingOf, durationOf, freshSender}
 use Rattle.modulation.specs.Queueing.{Queueing, writeOf, idleMarkOf}
 use Rattle.calls.specs.Answers.{numberIn, countIn, bit}
 use Rattle.calls.specs.Roles.{roleOf}
-use Rattle.calls.specs.Resample.{Run, ran, after}
+use Rattle.calls.specs.Resample.{Run, ran, after, kindIn, numberFor}
 
 -- ---- one call
 -- what a call gives: its refusal, 0 where it is accepted; its value; the sender afterwards; and the places that it was lent, as it leaves them
@@ -66,12 +66,6 @@ abbrev pub reply : Outcome → List ℕ
 reply c = c .number ∷ c .value ∷ bit (pendingOf (c .state)) ∷ []
 
 -- ---- a script: two numbers for each call, its kind and n
-abbrev pub kindIn : List ℕ → ℕ
-kindIn script = getD script 0 0
-
-abbrev pub numberFor : List ℕ → ℕ
-numberFor script = getD script 1 0
-
 -- the whole calls of a script that have room for their answers, three numbers each
 abbrev pub callsFor : List ℕ → List ℕ → ℕ
 callsFor script ans = min (length script / 2) (length ans / 3)
@@ -85,7 +79,32 @@ sentFrom (suc k) s bytes script out ans =
     let c = called (kindIn script) (numberFor script) s (take b bytes) (take p out) in
     after 1 (c .part) (reply c) (sentFrom k (c .state) (drop b bytes) (drop 2 script) (drop p out) (drop 3 ans))
 
+-- the sender after them
+unfoldable pub senderAfter : ℕ → Sender → List ℕ → List ℕ → List Float → Sender
+senderAfter zero s bytes script out = s
+senderAfter (suc k) s bytes script out =
+    let b = bytesFor (kindIn script) (numberFor script) in
+    let p = placesFor (kindIn script) (numberFor script) in
+    let c = called (kindIn script) (numberFor script) s (take b bytes) (take p out) in
+    senderAfter k (c .state) (drop b bytes) (drop 2 script) (drop p out)
+
 -- a rate that `new` refuses runs no call and writes nothing
 unfoldable pub sendRun : ℕ → ℕ → List ℕ → List ℕ → List Float → List ℕ → Run
 sendRun rate role bytes script out ans =
     if rateRefused rate then ran 0 out ans else sentFrom (callsFor script ans) (freshSender rate (roleOf role)) bytes script out ans
+
+-- what a script leaves: the answer of `new`, the run, and the sender behind it
+pub record Sent : Type 0 where
+  pub answer : Reply Unit
+  pub run : Run
+  pub state : Sender
+
+abbrev pub sent : Reply Unit → Run → Sender → Sent
+sent a r s = record { answer = a; run = r; state = s }
+
+unfoldable pub senderRun : ℕ → ℕ → List ℕ → List ℕ → List Float → List ℕ → Sent
+senderRun rate role bytes script out ans =
+    let k = callsFor script ans in
+    let s = freshSender rate (roleOf role) in
+    if rateRefused rate then sent (refused 1) (ran 0 out ans) (freshSender dspRate (roleOf role))
+    else sent (given tt) (sentFrom k s bytes script out ans) (senderAfter k s bytes script out)

@@ -3,10 +3,12 @@
 //   resample   of the resampler                                    specs/Resample.antt, Steps.antt
 //   receive    of the receiver                                     specs/Receive.antt, ReceiveSteps.antt
 //   send       of the sender                                       specs/Send.antt, SendSteps.antt
+//   frames     framing, and deframing in any state                 specs/Frames.antt
 //   shown      what a board shows, as numbers                      specs/Shown.antt
 //   answers, events, roles: answers, events and roles as numbers   specs/Answers.antt, Roles.antt
 mod answers;
 mod events;
+mod frames;
 mod receive;
 mod resample;
 mod roles;
@@ -14,11 +16,17 @@ mod send;
 mod shown;
 
 pub use answers::number_in;
+pub use frames::deframe_bits;
+pub use frames::frame_bytes;
 pub use receive::Call;
 pub use receive::make_call;
 pub use receive::received_from_fresh;
+pub use resample::Scripted;
 pub use resample::calls_from_fresh;
 pub use resample::lengths_from_fresh;
+pub use resample::scripted_from_fresh;
 pub use roles::role_of;
+pub use send::Sent;
+pub use send::sender_from_fresh;
 pub use send::sent_from_fresh;
 pub use shown::put_board;

@@ -19,8 +19,8 @@ ghost use Rattle.calls.specs.ReceiveSteps.{Takes, Calls, Within, Stepped
 
 // How many events were taken, and the receiver.
 struct TakenEvents {
-    count: usize,
     state: Rx,
+    count: usize,
 }
 
 // As many events as wait and have room in buf, oldest first.
@@ -45,8 +45,8 @@ fn take_events(rx: Rx, buf: &mut [u8]) -> TakenEvents
 
 // A call's answer, and the receiver.
 pub struct Called {
-    pub answer: Heard,
     pub state: Rx,
+    pub answer: Heard,
 }
 
 // A write, a read into the whole of bytes, and events into the whole of events.

@@ -16,7 +16,7 @@ ghost use Rattle.refusal.specs.Refusals.{acceptanceOf};
 ghost use Rattle.modulation.specs.TxRep.{senderOf, TxSound};
 ghost use Rattle.calls.specs.Answers.{numberIn};
 ghost use Rattle.calls.specs.Resample.{ran};
-ghost use Rattle.calls.specs.Send.{unlessRefused, amplitudeIn, called, bytesFor, placesFor, callsFor, sentFrom, sendRun};
+ghost use Rattle.calls.specs.Send.{unlessRefused, amplitudeIn, called, bytesFor, placesFor, callsFor, sentFrom, senderAfter, sendRun, sent, senderRun};
 ghost use Rattle.calls.specs.SendSteps.{outcomeOf, Within, Stepped};
 
 // Kinds of calls: `write`, `write_idle_mark`, `set_amplitude`, `read`; any other is `samples_for_bits`.
@@ -30,9 +30,9 @@ const READ: u64 = 3;
 
 // What a call answers: its refusal, 0 where it is accepted, and its value; and the sender.
 struct Called {
+    state: Tx,
     number: u32,
     value: usize,
-    state: Tx,
 }
 
 fn bytes_for(kind: u64, n: u64) -> usize
@@ -175,13 +175,24 @@ fn one_call(
     }
 }
 
+// How many calls were run, and the sender behind them.
+struct Ended {
+    calls: usize,
+    state: Tx,
+}
+
 // Each call of the script that has room for its answer.
-fn all_calls(tx: Tx, data: &[u8], script: &[u64], samples: &mut [f32], answers: &mut [u64]) -> usize
+fn all_calls(tx: Tx, data: &[u8], script: &[u64], samples: &mut [f32], answers: &mut [u64]) -> Ended
     requires { ⌜ TxSound tx ⌝ }
     ensures { λ r. ⌜
-        ran r (now (samples .exit)) (now (answers .exit))
+        ran (r .calls) (now (samples .exit)) (now (answers .exit))
         ≡ sentFrom (callsFor (now (script .entry)) (now (answers .entry)))
         (senderOf tx) (now («data» .entry)) (now (script .entry)) (now (samples .entry)) (now (answers .entry)) ⌝ }
+    ensures { λ r. ⌜
+        senderOf (r .state)
+        ≡ senderAfter (callsFor (now (script .entry)) (now (answers .entry)))
+        (senderOf tx) (now («data» .entry)) (now (script .entry)) (now (samples .entry)) ⌝ }
+    ensures { λ r. ⌜ TxSound (r .state) ⌝ }
 {
     let calls = smaller(script.len() / 2, answers.len() / 3);
     let mut place = Place {
@@ -196,10 +207,53 @@ fn all_calls(tx: Tx, data: &[u8], script: &[u64], samples: &mut [f32], answers: 
         place = one_call(place, kind, n, data, samples, answers, 3 * i);
         i += 1;
     }
-    calls
+    let last = place.state;
+    Ended { calls, state: last }
 }
 
-// A fresh sender, and the calls of the script. Role 0 originates, any other number answers.
+// What `new` answers; how many calls were run, and the sender behind them.
+pub struct Sent {
+    pub answer: Acceptance,
+    pub calls: usize,
+    pub state: Tx,
+}
+
+// A fresh sender, and the calls of the script; none where `new` refuses the rate. Role 0 originates, any other number answers.
+pub fn sender_from_fresh(
+    rate: u32,
+    role: u32,
+    data: &[u8],
+    script: &[u64],
+    samples: &mut [f32],
+    answers: &mut [u64],
+) -> Sent
+    ensures { λ r. ⌜
+        sent (acceptanceOf (r .answer)) (ran (r .calls) (now (samples .exit)) (now (answers .exit))) (senderOf (r .state))
+        ≡ senderRun rate role (now («data» .entry)) (now (script .entry)) (now (samples .entry)) (now (answers .entry)) ⌝ }
+    ensures { λ r. ⌜ TxSound (r .state) ⌝ }
+{
+    let made = Tx::new(rate, role_of(role));
+    let answer = made.answer;
+    let fresh = made.state;
+    match answer {
+        Acceptance::Refused(_) => Sent {
+            answer,
+            calls: 0,
+            state: fresh,
+        },
+        Acceptance::Accepted => {
+            let e = all_calls(fresh, data, script, samples, answers);
+            let state = e.state;
+            Sent {
+                answer,
+                calls: e.calls,
+                state,
+            }
+        }
+    }
+}
+
+// The same for a caller that wants no state.
 pub fn sent_from_fresh(
     rate: u32,
     role: u32,
@@ -212,11 +266,6 @@ pub fn sent_from_fresh(
         ran r (now (samples .exit)) (now (answers .exit))
         ≡ sendRun rate role (now («data» .entry)) (now (script .entry)) (now (samples .entry)) (now (answers .entry)) ⌝ }
 {
-    let made = Tx::new(rate, role_of(role));
-    let answer = made.answer;
-    let state = made.state;
-    match answer {
-        Acceptance::Refused(_) => 0,
-        Acceptance::Accepted => all_calls(state, data, script, samples, answers),
-    }
+    let s = sender_from_fresh(rate, role, data, script, samples, answers);
+    s.calls
 }

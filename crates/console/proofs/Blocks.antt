@@ -2,32 +2,35 @@
 use Prim.Native.Nat.{ℕ, _+_, _≤_, _<_, min}
 use mathlib.Core.Path.{_≡_, refl, sym, ap, _∙_}
 use mathlib.Core.Logic.{_⊎_, inl, inr}
-use mathlib.Core.Bool.{true, false}
+use mathlib.Core.Bool.{Bool, true, false}
 use mathlib.Core.List.{List, [], _∷_, _++_}
-use lib.ListN.{length, getD, drop}
+use lib.ListN.{length, getD, drop, length-append}
 use lib.Seq.{drop-cons, drop-length}
 use native.Mathlib.Nat.{min-eq-left, min-eq-right}
 use native.Mathlib.Numerals.{add-one}
 use native.Mathlib.Omega.{arith}
 use Rattle.numeric.specs.If.{if_then_else_}
 use Rattle.happenings.specs.Happening.{typed}
+use Rattle.happenings.specs.declared.happening.Happening.{Happening}
 use Rattle.happenings.specs.declared.happening.Happening.the-variants.{Byte}
 use Rattle.tide.specs.Decoder as plain
 use Rattle.tide.specs.DecoderRep.{decoderOf, mostCount, holding, Sound, isEnd, Stepped}
+use Rattle.tide.specs.Decoder.{freshDecoder}
+use Rattle.tide.proofs.DecoderLaws.{tookAll-append, linesIn-append}
 use Rattle.tide.proofs.DecoderRepLaws.{min-by, holding-heard, holding-lines, unheld}
 use Rattle.tide.specs.declared.decoder.Step.{Step}
-use Rattle.console.specs.Text.{Taken, Read}
+use Rattle.console.specs.Text.{Taken, Read, ReadSome, Judges}
 use Rattle.console.specs.declared.text.Text.{Text}
 
 pub taken-end : (t : Text) (c k : ℕ) (s : Step) → Stepped (t .decoder) (plain.moveOf (Byte c)) s → s .ended ≡ true → k ≡ min (t .lines + 1) mostCount
-    → Taken t c (record { decoder = s .decoder; lines = k })
+    → (told : Bool) → Taken t c (record { decoder = s .decoder; lines = k; told = told })
 unfolding plain.took
-taken-end t c k s h e n =
+taken-end t c k s h e n told =
     let b : isEnd (plain.moveOf (Byte c)) ≡ true = sym (h .ended) ∙ e in
     record { decoder = h .same; lines = rw b n; sound = h .sound }
 
 pub taken-on : (t : Text) (c : ℕ) (s : Step) → Stepped (t .decoder) (plain.moveOf (Byte c)) s → s .ended ≡ false
-    → Taken t c (record { decoder = s .decoder; lines = t .lines })
+    → Taken t c (record { decoder = s .decoder; lines = t .lines; told = t .told })
 unfolding plain.took
 taken-on t c s h e =
     let b : isEnd (plain.moveOf (Byte c)) ≡ false = sym (h .ended) ∙ e in
@@ -88,4 +91,49 @@ going-end t bs i r g p q m =
       decoder = sym (unheld (r .decoder) (g .sound)) ∙ (rw k at (g .decoder));
       lines = (let w : r .lines ≡ r .lines + 0 = omega arith in w) ∙ (sym (min-eq-left z) ∙ (rw k at (g .lines)));
       sound = g .sound;
+    }
+
+-- ---- block after block
+typed-append : (bs cs : List ℕ) → typed (bs ++ cs) ≡ typed bs ++ typed cs
+unfolding typed
+typed-append [] cs = refl
+typed-append (b ∷ bs) cs = ap (λ (hs : List Happening). Byte b ∷ hs) (typed-append bs cs)
+
+pub read-none : (t : Text) → Sound (t .decoder) → t .lines ≤ mostCount → ReadSome t t
+read-none t s h = record { bytes = []; read = going-end t [] 0 t (going-start t [] s) (omega arith) (omega arith) h }
+
+pub read-more : (t : Text) (bs : List ℕ) (r u : Text) → Read t bs r → ReadSome r u → ReadSome t u
+read-more t bs r u h k =
+    let d = decoderOf (t .decoder) in
+    let cs = k .bytes in
+    let n = length (plain.linesIn d (typed bs)) in
+    let e : typed (bs ++ cs) ≡ typed bs ++ typed cs = typed-append bs cs in
+    let l : length (plain.linesIn d (typed bs ++ typed cs)) ≡ n + length (plain.linesIn (plain.tookAll d (typed bs)) (typed cs)) =
+    rw (linesIn-append d (typed bs) (typed cs)) (length-append (plain.linesIn d (typed bs)) (plain.linesIn (plain.tookAll d (typed bs)) (typed cs))) in
+    let m : t .lines + (n + length (plain.linesIn (plain.tookAll d (typed bs)) (typed cs))) ≡ t .lines + n + length (plain.linesIn (plain.tookAll d (typed bs)) (typed cs)) = omega arith in
+    record {
+      bytes = bs ++ cs;
+      read =
+          record {
+            decoder = k .read .decoder ∙ rw (h .decoder, holding-heard (typed cs) (plain.tookAll d (typed bs)), e, tookAll-append d (typed bs) (typed cs)) refl;
+            lines =
+                k .read .lines
+                ∙ rw (h .decoder, holding-lines (typed cs) (plain.tookAll d (typed bs)), h .lines, e, l, m)
+                (min-add (t .lines + n) (length (plain.linesIn (plain.tookAll d (typed bs)) (typed cs))) mostCount);
+            sound = k .read .sound;
+          };
+    }
+
+pub some-more : (t r u : Text) → ReadSome t r → ReadSome r u → ReadSome t u
+some-more t r u h k = read-more t (h .bytes) r u (h .read) k
+
+-- from a fresh decoder on
+pub judges : (station : ℕ) (t r : Text) → decoderOf (t .decoder) ≡ freshDecoder station → t .lines ≡ 0 → ReadSome t r → Judges station r
+judges station t r e z h =
+    let n = length (plain.linesIn (freshDecoder station) (typed (h .bytes))) in
+    let k : 0 + n ≡ n = omega arith in
+    record {
+      bytes = h .bytes;
+      decoder = h .read .decoder ∙ rw e refl;
+      lines = h .read .lines ∙ rw (e, z) (ap (λ (m : ℕ). min m mostCount) k);
     }

@@ -6,7 +6,7 @@ use lib.ListN.{length}
 use Rattle.numeric.specs.If.{if_then_else_}
 use Rattle.happenings.specs.Happening.{typed}
 use Rattle.happenings.specs.declared.happening.Happening.the-variants.{Byte}
-use Rattle.tide.specs.Decoder.{moveOf, took, tookAll, linesIn}
+use Rattle.tide.specs.Decoder.{freshDecoder, moveOf, took, tookAll, linesIn}
 use Rattle.tide.specs.DecoderRep.{decoderOf, mostCount, holding, Sound, isEnd}
 use Rattle.console.specs.declared.text.Text.{Text}
 
@@ -21,3 +21,14 @@ pub record Read (t : Text) (bs : List ℕ) (r : Text) : Type 0 where
   pub decoder : decoderOf (r .decoder) ≡ holding (tookAll (decoderOf (t .decoder)) (typed bs))
   pub lines : r .lines ≡ min (t .lines + length (linesIn (decoderOf (t .decoder)) (typed bs))) mostCount
   pub sound : Sound (r .decoder)
+
+-- "reads text from standard input": there are bytes, those read, and this is what they do
+pub record ReadSome (t r : Text) : Type 0 where
+  pub bytes : List ℕ
+  pub read : Read t bytes r
+
+-- the whole of the text read, judged for a station by a fresh decoder, and the number of its lines
+pub record Judges (station : ℕ) (r : Text) : Type 0 where
+  pub bytes : List ℕ
+  pub decoder : decoderOf (r .decoder) ≡ holding (tookAll (freshDecoder station) (typed bytes))
+  pub lines : r .lines ≡ min (length (linesIn (freshDecoder station) (typed bytes))) mostCount

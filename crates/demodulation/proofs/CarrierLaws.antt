@@ -9,15 +9,13 @@ use borrow.Author.Tests.{lt-ltb, le-ltb}
 use lib.Dec.{ltb}
 use lib.Ieee.{Float}
 use lib.ListN.{length, take, length-map}
-use Rattle.numeric.specs.F64.{_⊗_, _⊘_, _<ᶠ_, f64, one64}
+use Rattle.numeric.specs.F64.{_⊘_, _<ᶠ_, f64, one64}
 use Rattle.numeric.specs.If.{if_then_else_}
 use Rattle.numeric.specs.Fold.{fold}
 use Rattle.demodulation.specs.Carrier.{levelOf, floorMinFraction, floorOf, ratioOf, riseRatio, fallRatio, detector, whileUp, whileDown, updated}
-use Rattle.demodulation.specs.Carrier.{unfinished, finished, yesOf, endedAnswer, judged, narrowOf, othersOf, dominanceRatio, freshDominance, withSample, dominanceReset, dominanceStep}
+use Rattle.demodulation.specs.Carrier.{goesOn, endedAnswer, Answered, freshDominance, withSample, dominanceReset, dominanceStep}
 use Rattle.demodulation.specs.declared.carrier.CarrierDetector.{CarrierDetector}
 use Rattle.demodulation.specs.declared.carrier.ToneDominance.{ToneDominance}
-use Rattle.demodulation.specs.declared.carrier.Judged.{Judged}
-use Rattle.demodulation.specs.declared.carrier.Verdict.{Verdict}
 use Rattle.demodulation.specs.Carrier.{ratioIn, AllLow, Falls}
 
 -- what holds of each arm, its test known, holds of the choice
@@ -97,28 +95,21 @@ falls-at-4000 d energies h none m low =
     record { stays = λ n p. stays-up n energies d h low (omega arith); falls = goes-down energies d h low (omega arith) (omega arith) }
 
 -- ---- dominance
-judged-says : (narrow others : Float) → yesOf (judged narrow others) ≡ finished (dominanceRatio ⊗ others <ᶠ narrow) narrow others
-unfolding judged
-judged-says narrow others = either Told (dominanceRatio ⊗ others <ᶠ narrow) refl refl
-  where
-    Told : Bool → Verdict → Type 0
-    Told b v = yesOf v ≡ finished b narrow others
-
 module _ (d : ToneDominance) (x : Float) where
-  -- the answer to a sample: Going exactly while count + 1 < 256
-  pub step-says : yesOf (dominanceStep d x .verdict) ≡ (if ltb (d .count + 1) 256 then unfinished else endedAnswer (withSample d x))
+  -- what is said of a sample's block: it goes on exactly while count + 1 < 256
+  pub step-says : dominanceStep d x .answer ≡ (if ltb (d .count + 1) 256 then goesOn else endedAnswer (withSample d x))
   unfolding dominanceStep
-  step-says = either Told (ltb (d .count + 1) 256) refl (judged-says (narrowOf (withSample d x .mark)) (othersOf (withSample d x .own) (withSample d x .wideband)))
+  step-says = either Told (ltb (d .count + 1) 256) refl refl
     where
-      Told : Bool → Judged → Type 0
-      Told b j = yesOf (j .verdict) ≡ (if b then unfinished else endedAnswer (withSample d x))
+      Told : Bool → Answered → Type 0
+      Told b j = j .answer ≡ (if b then goesOn else endedAnswer (withSample d x))
 
   -- the count after it
   pub count-after : dominanceStep d x .state .count ≡ (if ltb (d .count + 1) 256 then d .count + 1 else 0)
   unfolding dominanceStep dominanceReset
   count-after = either Told (ltb (d .count + 1) 256) refl refl
     where
-      Told : Bool → Judged → Type 0
+      Told : Bool → Answered → Type 0
       Told b j = j .state .count ≡ (if b then d .count + 1 else 0)
 
   -- the filters stay as many
@@ -126,7 +117,7 @@ module _ (d : ToneDominance) (x : Float) where
   unfolding dominanceStep dominanceReset
   filters-kept = either Told (ltb (d .count + 1) 256) (simp length-map, simp length-map) (simp length-map, simp length-map)
     where
-      Told : Bool → Judged → Type 0
+      Told : Bool → Answered → Type 0
       Told b j = (length (j .state .mark) ≡ length (d .mark)) × (length (j .state .own) ≡ length (d .own))
 
 -- five filters for the mark and two for this end's own tones

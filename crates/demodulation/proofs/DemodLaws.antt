@@ -10,52 +10,51 @@ use borrow.Author.Tests.{ltb-true, ltb-false}
 use lib.Bits.{or-lt}
 use lib.Dec.{ltb, ltb→lt}
 use lib.Ieee.{Float}
-use lib.ListN.{length, length-append, getD, drop, drop-of-length-le}
+use lib.ListN.{length, length-append, length-map, getD, drop, drop-of-length-le}
 use lib.Seq.{drop-cons}
-use Rattle.numeric.specs.F64.{_≤ᶠ_, zero64}
 use Rattle.numeric.specs.If.{if_then_else_}
 use Rattle.numeric.proofs.Tested.{at-number}
-use Rattle.framing.specs.Frame.{withBit, idleBit, dataBit, stopBit, badStop, pushBit, bytesOf, heard, after}
+use Rattle.framing.specs.Frame.{withBit, mostErrors, idleBit, dataBit, stopBit, badStop, Deframed, pushBit, heard, after}
 use Rattle.framing.proofs.FrameLaws.{push-idle, push-data, push-stop}
 use Rattle.framing.specs.Framing.{AreBytes, held}
-use Rattle.framing.proofs.FramingLaws.{heard-append, after-append, heard-few, heard-few-any}
+use Rattle.framing.proofs.FramingLaws.{heard-append, after-append, completed-few, heard-few-any, errors-are, errors-most}
 use Rattle.demodulation.specs.Demod.{Demodulator, Step, eventOf, fed, finished, decoded, stepOf, freshDemodulator, fallOf, changeOf, wordOf, happensAt, happens, before, hearing, reported, Tuned}
-use Rattle.demodulation.specs.Correlation.{places, multiplied, advanced}
-use Rattle.demodulation.specs.Timing.{sliced, ticked}
+use Rattle.demodulation.specs.Carrier.{updated, dominanceStep}
+use Rattle.demodulation.specs.Correlation.{places, multiplied, advanced, correlated}
+use Rattle.demodulation.specs.Timing.{sliced, slicedBits, ticked}
+use Rattle.demodulation.proofs.TimingLaws.{keeps-half-byte, slice-bits, slice-one}
 use Rattle.demodulation.specs.Demod.{eventsOf}
 use Rattle.bell103.specs.declared.Role.{Role}
 use Rattle.framing.specs.declared.frame.Deframer.{Deframer}
-use Rattle.framing.specs.declared.frame.Heard.{Heard}
-use Rattle.framing.specs.declared.frame.Heard.the-variants.{Byte, Waiting}
 use Rattle.happenings.specs.Happening.{bytesIn, changesIn}
 use Rattle.happenings.proofs.HappeningLaws as happening
 use Rattle.happenings.specs.declared.happening.Happening.{Happening}
 use Rattle.demodulation.specs.declared.kind.Kind.{Kind}
 use Rattle.demodulation.specs.declared.carrier.CarrierDetector.{CarrierDetector}
 use Rattle.demodulation.specs.declared.demod.Latch.{Latch}
-use Rattle.framing.specs.declared.frame.Pushed.{Pushed}
+use Rattle.demodulation.specs.declared.correlator.Decision.{Decision}
 use Rattle.demodulation.specs.declared.correlator.Correlator.{Correlator}
 use Rattle.demodulation.specs.declared.demod.Event.{Event}
 use Rattle.demodulation.specs.declared.demod.Event.the-variants.{Nothing, CarrierUp, CarrierDown}
-use Rattle.demodulation.specs.Demod.{Sliced, lastOf, joined}
+use Rattle.demodulation.specs.Demod.{bitsAt, bitsIn, badStopsIn, Sliced, lastOf, joined}
 
 -- ---- one step
 module _ (d : Demodulator) (s : Float) where
   -- "nothing more until 27 samples are in"
-  pub step-waits : fed d s .corr .filled ≡ false → stepOf d s ≡ record { state = fed d s; heard = Waiting; event = Nothing }
+  pub step-waits : fed d s .corr .filled ≡ false → stepOf d s ≡ record { state = fed d s; bytes = []; event = Nothing }
   unfolding stepOf
-  step-waits h = ap (λ (f : Bool). if f then decoded (fed d s) else record { state = fed d s; heard = Waiting; event = Nothing }) h
+  step-waits h = ap (λ (f : Bool). if f then decoded (fed d s) else record { state = fed d s; bytes = []; event = Nothing }) h
 
   pub step-decodes : fed d s .corr .filled ≡ true → stepOf d s ≡ decoded (fed d s)
   unfolding stepOf
-  step-decodes h = ap (λ (f : Bool). if f then decoded (fed d s) else record { state = fed d s; heard = Waiting; event = Nothing }) h
+  step-decodes h = ap (λ (f : Bool). if f then decoded (fed d s) else record { state = fed d s; bytes = []; event = Nothing }) h
 
   -- what holds of either holds of the step
-  by-cases : (P : Step → Type 0) → P (record { state = fed d s; heard = Waiting; event = Nothing }) → P (decoded (fed d s)) → P (stepOf d s)
+  by-cases : (P : Step → Type 0) → P (record { state = fed d s; bytes = []; event = Nothing }) → P (decoded (fed d s)) → P (stepOf d s)
   unfolding stepOf
   by-cases P w g = go (fed d s .corr .filled)
     where
-      go : (f : Bool) → P (if f then decoded (fed d s) else record { state = fed d s; heard = Waiting; event = Nothing })
+      go : (f : Bool) → P (if f then decoded (fed d s) else record { state = fed d s; bytes = []; event = Nothing })
       go true = g
       go false = w
 
@@ -69,30 +68,28 @@ module _ (d : Demodulator) (s : Float) where
   unfolding fed finished
   rings-after = by-cases (λ x. x .state .rings ≡ multiplied (d .rings) (d .corr) s) refl refl
 
-no-bits : (d : Deframer) (n : ℕ) → Sliced d d [] n
-unfolding heard after
-no-bits d n = record { bits = []; few = omega arith; left = refl; yields = refl }
+  -- the block goes on by the sample alone
+  pub dominance-after : stepOf d s .state .dominance ≡ dominanceStep (d .dominance) s .state
+  unfolding fed finished
+  dominance-after = by-cases (λ x. x .state .dominance ≡ dominanceStep (d .dominance) s .state) refl refl
 
-one-bit : (d : Deframer) (bit : Bool) → Sliced d (pushBit d bit .state) (bytesOf (pushBit d bit .heard)) 1
-unfolding heard after
-one-bit d bit = record { bits = bit ∷ []; few = omega arith; left = refl; yields = append-nil (bytesOf (pushBit d bit .heard)) }
+  -- "At most one boundary a sample", so at most one bit
+  pub step-bits : Sliced (d .deframer) (bitsAt d s) (stepOf d s .state .deframer) (stepOf d s .bytes) 1
+  unfolding stepOf bitsAt fed finished heard after
+  step-bits = go (fed d s .corr .filled)
+    where
+      o : Decision
+      o = correlated (fed d s .rings)
 
-slice-bits : (d : Deframer) (boundary up : Bool) (soft : Float) → Sliced d (sliced d boundary up soft .state) (bytesOf (sliced d boundary up soft .heard)) 1
-unfolding sliced
-slice-bits d true true soft = one-bit d (zero64 ≤ᶠ soft)
-slice-bits d true false soft = no-bits d 1
-slice-bits d false up soft = no-bits d 1
-
--- "At most one boundary a sample", so at most one bit
-pub step-bits : (d : Demodulator) (s : Float) → Sliced (d .deframer) (stepOf d s .state .deframer) (bytesOf (stepOf d s .heard)) 1
-unfolding fed finished
-step-bits d s =
-    by-cases d s (λ x. Sliced (d .deframer) (x .state .deframer) (bytesOf (x .heard)) 1)
-    (no-bits (d .deframer) 1)
-    (slice-bits (d .deframer) _ _ _)
+      go : (f : Bool) → Sliced (d .deframer)
+          (if f then slicedBits (ticked (d .timing) (o .soft) .boundary) (updated (d .carrier) (o .energy) .detected) (o .soft) else [])
+          ((if f then decoded (fed d s) else record { state = fed d s; bytes = []; event = Nothing }) .state .deframer)
+          ((if f then decoded (fed d s) else record { state = fed d s; bytes = []; event = Nothing }) .bytes) 1
+      go true = slice-bits (d .deframer) (o .soft) _ _
+      go false = record { few = omega arith; left = refl; yields = refl }
 
 -- ---- what happens at a step, by its parts
-module _ (was up : Bool) (event : Event) (word : Heard) where
+module _ (was up : Bool) (event : Event) (bytes : List ℕ) where
   fall-bytes : (was up : Bool) → bytesIn (fallOf was up) ≡ []
   unfolding bytesIn
   fall-bytes true true = refl
@@ -106,15 +103,15 @@ module _ (was up : Bool) (event : Event) (word : Heard) where
   change-bytes CarrierUp = refl
   change-bytes CarrierDown = refl
 
-  word-bytes : (word : Heard) → bytesIn (wordOf word) ≡ bytesOf word
+  word-bytes : (bytes : List ℕ) → bytesIn (wordOf bytes) ≡ bytes
   unfolding bytesIn
-  word-bytes (Byte b) = refl
-  word-bytes Waiting = refl
+  word-bytes [] = refl
+  word-bytes (b ∷ bs) = ap (λ (l : List ℕ). b ∷ l) (word-bytes bs)
 
-  pub bytes-at : bytesIn (happensAt was up event word) ≡ bytesOf word
+  pub bytes-at : bytesIn (happensAt was up event bytes) ≡ bytes
   bytes-at =
-      rw (happening.bytes-append (fallOf was up) (changeOf event ++ wordOf word), happening.bytes-append (changeOf event) (wordOf word), fall-bytes was up, change-bytes event)
-      (word-bytes word)
+      rw (happening.bytes-append (fallOf was up) (changeOf event ++ wordOf bytes), happening.bytes-append (changeOf event) (wordOf bytes), fall-bytes was up, change-bytes event)
+      (word-bytes bytes)
 
   fall-changes : (was up : Bool) → changesIn (fallOf was up) ≡ []
   unfolding changesIn
@@ -129,14 +126,14 @@ module _ (was up : Bool) (event : Event) (word : Heard) where
   change-changes CarrierUp = refl
   change-changes CarrierDown = refl
 
-  word-changes : (word : Heard) → changesIn (wordOf word) ≡ []
+  word-changes : (bytes : List ℕ) → changesIn (wordOf bytes) ≡ []
   unfolding changesIn
-  word-changes (Byte b) = refl
-  word-changes Waiting = refl
+  word-changes [] = refl
+  word-changes (b ∷ bs) = word-changes bs
 
-  pub changes-at : changesIn (happensAt was up event word) ≡ eventsOf event
+  pub changes-at : changesIn (happensAt was up event bytes) ≡ eventsOf event
   changes-at =
-      rw (happening.changes-append (fallOf was up) (changeOf event ++ wordOf word), happening.changes-append (changeOf event) (wordOf word), fall-changes was up, word-changes word)
+      rw (happening.changes-append (fallOf was up) (changeOf event ++ wordOf bytes), happening.changes-append (changeOf event) (wordOf bytes), fall-changes was up, word-changes bytes)
       (append-nil (changesIn (changeOf event)) ∙ change-changes event)
 
 -- at most two: where the detector goes down, nothing is sliced
@@ -145,27 +142,20 @@ one-change Nothing = omega arith
 one-change CarrierUp = omega arith
 one-change CarrierDown = omega arith
 
-one-word : (word : Heard) → length (wordOf word) ≤ 1
-one-word (Byte b) = omega arith
-one-word Waiting = omega arith
+word-few : (bytes : List ℕ) (event : Event) → length bytes ≤ 1 → length (changeOf event ++ wordOf bytes) ≤ 2
+word-few bytes event h = rw (length-append (changeOf event) (wordOf bytes), length-map) (omega (arith, one-change event))
 
-two-at : (d : Deframer) (was up boundary : Bool) (soft : Float) (event : Event) → length (happensAt was up event (sliced d boundary up soft .heard)) ≤ 2
-unfolding sliced
-two-at d true false true soft event = rw (length-append (changeOf event) []) (omega (arith, one-change event))
-two-at d true false false soft event = rw (length-append (changeOf event) []) (omega (arith, one-change event))
-two-at d true true boundary soft event =
-    rw (length-append (changeOf event) (wordOf (sliced d boundary true soft .heard))) (omega (arith, one-change event, one-word (sliced d boundary true soft .heard)))
-two-at d false true boundary soft event =
-    rw (length-append (changeOf event) (wordOf (sliced d boundary true soft .heard))) (omega (arith, one-change event, one-word (sliced d boundary true soft .heard)))
-two-at d false false boundary soft event =
-    rw (length-append (changeOf event) (wordOf (sliced d boundary false soft .heard))) (omega (arith, one-change event, one-word (sliced d boundary false soft .heard)))
+two-at : (d : Deframer) (was up boundary : Bool) (soft : Float) (event : Event) → length (happensAt was up event (sliced d boundary up soft .bytes)) ≤ 2
+two-at d true false boundary soft event = rw (keeps-half-byte d soft boundary, length-append (changeOf event) []) (omega (arith, one-change event))
+two-at d true true boundary soft event = word-few (sliced d boundary true soft .bytes) event (slice-one d soft boundary true)
+two-at d false up boundary soft event = word-few (sliced d boundary up soft .bytes) event (slice-one d soft boundary up)
 
-none-at : (up : Bool) → length (happensAt up up Nothing Waiting) ≤ 2
+none-at : (up : Bool) → length (happensAt up up Nothing []) ≤ 2
 none-at true = omega arith
 none-at false = omega arith
 
 two-of : (was : Bool) (c : Demodulator) (carrier : CarrierDetector) (latch : Latch) (soft : Float)
-    → length (happensAt was (finished c carrier latch soft .state .carrier .detected) (finished c carrier latch soft .event) (finished c carrier latch soft .heard)) ≤ 2
+    → length (happensAt was (finished c carrier latch soft .state .carrier .detected) (finished c carrier latch soft .event) (finished c carrier latch soft .bytes)) ≤ 2
 unfolding finished
 two-of was c carrier latch soft =
     two-at (c .deframer) was (carrier .detected) (ticked (c .timing) soft .boundary) soft (eventOf (c .latch .qualified) (latch .qualified))
@@ -175,37 +165,51 @@ unfolding fed
 step-two d s =
     by-cases d s (λ x. length (happens d x) ≤ 2) (none-at (d .carrier .detected)) (two-of (d .carrier .detected) (fed d s) _ _ _)
 
--- of so many samples at most so many bits
-pub hearing-bits : (d : Demodulator) (ss : List Float) → Sliced (d .deframer) (hearing d ss .after .deframer) (bytesIn (hearing d ss .happenings)) (length ss)
-unfolding hearing
-hearing-bits d [] = unfold bytesIn in no-bits (d .deframer) 0
+-- the deframer gets the bits of the samples, at most one of each, and its bytes are the bytes heard
+pub hearing-bits : (d : Demodulator) (ss : List Float)
+    → Sliced (d .deframer) (bitsIn d ss) (hearing d ss .after .deframer) (bytesIn (hearing d ss .happenings)) (length ss)
+unfolding hearing bitsIn
+hearing-bits d [] = unfold bytesIn heard after in record { few = omega arith; left = refl; yields = refl }
 hearing-bits d (s ∷ ss) =
     let x = step-bits d s in
     let y = hearing-bits (stepOf d s .state) ss in
-    rw (happening.bytes-append (happens d (stepOf d s)) (hearing (stepOf d s .state) ss .happenings), bytes-at _ _ (stepOf d s .event) (stepOf d s .heard))
+    rw (happening.bytes-append (happens d (stepOf d s)) (hearing (stepOf d s .state) ss .happenings), bytes-at _ _ (stepOf d s .event) (stepOf d s .bytes))
     record {
-      bits = x .bits ++ y .bits;
-      few = rw (length-append (x .bits) (y .bits)) (omega arith);
-      left = after-append (d .deframer) (x .bits) (y .bits) ∙ rw (x .left) (y .left);
-      yields = heard-append (d .deframer) (x .bits) (y .bits) ∙ rw (x .left, x .yields, y .yields);
+      few = rw (length-append (bitsAt d s) (bitsIn (stepOf d s .state) ss)) (omega arith);
+      left = after-append (d .deframer) (bitsAt d s) (bitsIn (stepOf d s .state) ss) ∙ rw (x .left) (y .left);
+      yields = heard-append (d .deframer) (bitsAt d s) (bitsIn (stepOf d s .state) ss) ∙ rw (x .left, x .yields, y .yields);
     }
 
--- ten bits make a byte: ten for each byte heard are at most the bits held before and the samples
-pub hearing-few : (d : Demodulator) (ss : List Float)
-    → 10 * length (bytesIn (hearing d ss .happenings)) + held (hearing d ss .after .deframer) ≤ held (d .deframer) + length ss
-hearing-few d ss =
+-- ten bits make a byte or a bad stop: ten for each are at most the bits held before and the samples
+pub hearing-completed : (d : Demodulator) (ss : List Float)
+    → 10 * (length (bytesIn (hearing d ss .happenings)) + badStopsIn d ss) + held (hearing d ss .after .deframer) ≤ held (d .deframer) + length ss
+hearing-completed d ss =
     let x = hearing-bits d ss in
-    let h = heard-few (d .deframer) (x .bits) in
+    let h = completed-few (d .deframer) (bitsIn d ss) in
     let f = x .few in
     rw (← x .left, ← x .yields) (omega arith)
+
+-- bytes alone
+pub hearing-few : (d : Demodulator) (ss : List Float)
+    → 10 * length (bytesIn (hearing d ss .happenings)) + held (hearing d ss .after .deframer) ≤ held (d .deframer) + length ss
+hearing-few d ss = omega (arith, hearing-completed d ss)
 
 -- at most one byte a sample
 pub hearing-few-any : (d : Demodulator) (ss : List Float) → length (bytesIn (hearing d ss .happenings)) ≤ length ss
 hearing-few-any d ss =
     let x = hearing-bits d ss in
-    let h = heard-few-any (d .deframer) (x .bits) in
+    let h = heard-few-any (d .deframer) (bitsIn d ss) in
     let f = x .few in
     rw (← x .yields) (omega arith)
+
+-- the error count, where it has not held, has grown by the number of bad stops
+pub hearing-errors : (d : Demodulator) (ss : List Float) → d .deframer .errors + badStopsIn d ss ≤ mostErrors
+    → hearing d ss .after .deframer .errors ≡ d .deframer .errors + badStopsIn d ss
+hearing-errors d ss h = rw (← hearing-bits d ss .left) (errors-are (d .deframer) (bitsIn d ss) h)
+
+-- it never grows by more
+pub hearing-errors-most : (d : Demodulator) (ss : List Float) → hearing d ss .after .deframer .errors ≤ d .deframer .errors + badStopsIn d ss
+hearing-errors-most d ss = rw (← hearing-bits d ss .left) (errors-most (d .deframer) (bitsIn d ss))
 
 -- at most two happenings a sample
 pub hearing-two : (d : Demodulator) (ss : List Float) → length (hearing d ss .happenings) ≤ 2 * length ss
@@ -230,11 +234,10 @@ hearing-kind d [] = refl
 hearing-kind d (s ∷ ss) = hearing-kind (stepOf d s .state) ss ∙ step-kind d s
 
 -- ---- what a bit leaves true
--- a deframer's error count grows by one at most, and its byte so far stays a byte, as each byte that it gives is
-record Kept (d : Deframer) (x : Pushed) : Type 0 where
-  errors : x .state .errors ≤ d .errors + 1
+-- a deframer's byte so far stays a byte, as each byte that it gives is
+record Kept (x : Deframed) : Type 0 where
   acc : x .state .acc < 256
-  bytes : AreBytes (bytesOf (x .heard))
+  bytes : AreBytes (x .bytes)
 
 weight : (k : ℕ) → k < 8 → 2 ^ k < 256
 weight k h = ltb→lt (2 ^ k) 256 (at-number 8 (λ n. ltb (2 ^ n) 256) tt k h)
@@ -243,28 +246,28 @@ with-byte : (acc k : ℕ) (bit : Bool) → acc < 256 → k < 8 → withBit acc k
 with-byte acc k true h p = or-lt 8 acc (2 ^ k) h (weight k p)
 with-byte acc k false h p = h
 
-idle-kept : (d : Deframer) (bit : Bool) → d .acc < 256 → Kept d (idleBit d bit)
+idle-kept : (d : Deframer) (bit : Bool) → d .acc < 256 → Kept (idleBit d bit)
 unfolding idleBit
-idle-kept d true h = record { errors = omega arith; acc = h; bytes = tt }
-idle-kept d false h = record { errors = omega arith; acc = omega arith; bytes = tt }
+idle-kept d true h = record { acc = h; bytes = tt }
+idle-kept d false h = record { acc = omega arith; bytes = tt }
 
-stop-kept : (d : Deframer) (bit : Bool) → d .acc < 256 → Kept d (stopBit d bit)
+stop-kept : (d : Deframer) (bit : Bool) → d .acc < 256 → Kept (stopBit d bit)
 unfolding stopBit badStop
-stop-kept d true h = record { errors = omega arith; acc = h; bytes = (h, tt) }
-stop-kept d false h = record { errors = omega arith; acc = h; bytes = tt }
+stop-kept d true h = record { acc = h; bytes = (h, tt) }
+stop-kept d false h = record { acc = h; bytes = tt }
 
-data-kept : (d : Deframer) (bit : Bool) → d .acc < 256 → d .«bit_count» < 8 → Kept d (dataBit d bit)
+data-kept : (d : Deframer) (bit : Bool) → d .acc < 256 → d .«bit_count» < 8 → Kept (dataBit d bit)
 unfolding dataBit
-data-kept d bit h p = record { errors = omega arith; acc = with-byte (d .acc) (d .«bit_count») bit h p; bytes = tt }
+data-kept d bit h p = record { acc = with-byte (d .acc) (d .«bit_count») bit h p; bytes = tt }
 
-push-kept : (d : Deframer) (bit : Bool) → d .acc < 256 → Kept d (pushBit d bit)
+push-kept : (d : Deframer) (bit : Bool) → d .acc < 256 → Kept (pushBit d bit)
 push-kept d bit h = either (d .«in_frame») refl
   where
-    within : d .«in_frame» ≡ true → (t : Bool) → ltb (d .«bit_count») 8 ≡ t → Kept d (pushBit d bit)
+    within : d .«in_frame» ≡ true → (t : Bool) → ltb (d .«bit_count») 8 ≡ t → Kept (pushBit d bit)
     within e true t = rw (push-data d bit e (ltb-true _ _ t)) (data-kept d bit h (ltb-true _ _ t))
     within e false t = rw (push-stop d bit e (ltb-false _ _ t)) (stop-kept d bit h)
 
-    either : (f : Bool) → d .«in_frame» ≡ f → Kept d (pushBit d bit)
+    either : (f : Bool) → d .«in_frame» ≡ f → Kept (pushBit d bit)
     either false e = rw (push-idle d bit e) (idle-kept d bit h)
     either true e = within e (ltb (d .«bit_count») 8) refl
 
@@ -273,13 +276,6 @@ bytes-append [] ys p q = q
 bytes-append (x ∷ xs) ys p q = (p .0, bytes-append xs ys (p .1) q)
 
 -- along a list of bits
-after-errors : (d : Deframer) (bits : List Bool) → d .acc < 256 → after d bits .errors ≤ d .errors + length bits
-unfolding after
-after-errors d [] h = omega arith
-after-errors d (bit ∷ bits) h =
-    let k = push-kept d bit h in
-    omega (arith, k .errors, after-errors (pushBit d bit .state) bits (k .acc))
-
 after-acc : (d : Deframer) (bits : List Bool) → d .acc < 256 → after d bits .acc < 256
 unfolding after
 after-acc d [] h = h
@@ -290,7 +286,7 @@ unfolding heard
 heard-bytes d [] h = tt
 heard-bytes d (bit ∷ bits) h =
     let k = push-kept d bit h in
-    bytes-append (bytesOf (pushBit d bit .heard)) (heard (pushBit d bit .state) bits) (k .bytes) (heard-bytes (pushBit d bit .state) bits (k .acc))
+    bytes-append (pushBit d bit .bytes) (heard (pushBit d bit .state) bits) (k .bytes) (heard-bytes (pushBit d bit .state) bits (k .acc))
 
 -- ---- what a step leaves true
 next-place : (c : Correlator) → advanced c .pos < places
@@ -309,7 +305,7 @@ pub step-tuned : (d : Demodulator) (s : Float) → Tuned d → Tuned (stepOf d s
 step-tuned d s h =
     record {
       place = rw (corr-after d s) (next-place (d .corr));
-      byte = rw (← step-bits d s .left) (after-acc (d .deframer) (step-bits d s .bits) (h .byte));
+      byte = rw (← step-bits d s .left) (after-acc (d .deframer) (bitsAt d s) (h .byte));
     }
 
 pub hearing-tuned : (d : Demodulator) (ss : List Float) → Tuned d → Tuned (hearing d ss .after)
@@ -319,15 +315,7 @@ hearing-tuned d (s ∷ ss) h = hearing-tuned (stepOf d s .state) ss (step-tuned 
 
 -- each byte heard is a byte
 pub hearing-bytes : (d : Demodulator) (ss : List Float) → Tuned d → AreBytes (bytesIn (hearing d ss .happenings))
-hearing-bytes d ss h = rw (← hearing-bits d ss .yields) (heard-bytes (d .deframer) (hearing-bits d ss .bits) (h .byte))
-
--- at most one error a sample
-pub hearing-errors : (d : Demodulator) (ss : List Float) → Tuned d → hearing d ss .after .deframer .errors ≤ d .deframer .errors + length ss
-hearing-errors d ss h =
-    let x = hearing-bits d ss in
-    let e = after-errors (d .deframer) (x .bits) (h .byte) in
-    let f = x .few in
-    rw (← x .left) (omega arith)
+hearing-bytes d ss h = rw (← hearing-bits d ss .yields) (heard-bytes (d .deframer) (bitsIn d ss) (h .byte))
 
 last-append : (was : Bool) (xs ys : List Bool) → lastOf was (xs ++ ys) ≡ lastOf (lastOf was xs) ys
 last-append was [] ys = refl
@@ -356,7 +344,7 @@ hearing-reports d [] = unfold changesIn in refl
 hearing-reports d (s ∷ ss) =
     let x = happens d (stepOf d s) in
     let y = hearing (stepOf d s .state) ss .happenings in
-    rw (happening.changes-append x y, changes-at _ _ (stepOf d s .event) (stepOf d s .heard))
+    rw (happening.changes-append x y, changes-at _ _ (stepOf d s .event) (stepOf d s .bytes))
     (hearing-reports (stepOf d s .state) ss
     ∙ ap (λ (b : Bool). lastOf b (changesIn y)) (step-reports d s)
     ∙ sym (last-append (reported d) (eventsOf (stepOf d s .event)) (changesIn y)))
@@ -368,7 +356,7 @@ hearing-changes d [] = unfold changesIn in omega arith
 hearing-changes d (s ∷ ss) =
     let x = happens d (stepOf d s) in
     let y = hearing (stepOf d s .state) ss .happenings in
-    rw (happening.changes-append x y, changes-at _ _ (stepOf d s .event) (stepOf d s .heard), length-append (eventsOf (stepOf d s .event)) (changesIn y))
+    rw (happening.changes-append x y, changes-at _ _ (stepOf d s .event) (stepOf d s .bytes), length-append (eventsOf (stepOf d s .event)) (changesIn y))
     (omega (arith, few-events (stepOf d s .event), hearing-changes (stepOf d s .state) ss))
 
 -- ---- one list after another

@@ -2,5 +2,7 @@
 pub mod SummingLaws
 pub mod SummingSteps
 pub mod CarrierLaws
+pub mod TimingLaws
 pub mod DemodLaws
+pub mod FreshLaws
 mod Turns

@@ -1,7 +1,7 @@
 -- carrier.rs, operation by operation: the carrier detector, and the test that the energy is the far end's mark tone. Assumes nothing.
 use Prim.Native.Nat.{ℕ, _+_, zero, _<_}
-use mathlib.Core.Bool.{Bool, true, false}
-use mathlib.Core.List.{List, [], _∷_, map}
+use mathlib.Core.Bool.{Bool, true, false, _||_}
+use mathlib.Core.List.{List, [], _∷_, _++_, map}
 use lib.Dec.{ltb}
 use lib.Ieee.{Float, neg}
 use Rattle.numeric.specs.F64.{_⊕_, _⊖_, _⊗_, _⊘_, _<ᶠ_, f64, zero64, one64, two64, larger}
@@ -147,23 +147,33 @@ ownEnergy own = fold (λ sum g. sum ⊕ goertzelPower g) zero64 own ⊗ two64 �
 unfoldable pub othersOf : List Goertzel → Float → Float
 othersOf own wideband = larger (wideband ⊖ ownEnergy own) (ownEnergy own ⊗ ownLeakGuard)
 
--- "Rust's yes is narrow > 40 × others"; "A finished block's answer carries the two figures it compared"
-unfoldable pub judged : Float → Float → Verdict
-judged narrow others = if dominanceRatio ⊗ others <ᶠ narrow then Dominant narrow others else Not narrow others
-
--- what a verdict says: nothing while the block goes on; of a finished block Rust's yes or no, narrow power and floored remainder
+-- what is said of a block: nothing while it goes on; of one that ends Rust's yes or no, narrow power and floored remainder
 pub data BlockAnswer : Type 0 where
-  unfinished : BlockAnswer
-  finished : Bool → Float → Float → BlockAnswer
+  goesOn : BlockAnswer
+  endsWith : Bool → Float → Float → BlockAnswer
 
+-- what each case of the code's answer says
 abbrev pub yesOf : Verdict → BlockAnswer
-yesOf Going = unfinished
-yesOf (Dominant narrow others) = finished true narrow others
-yesOf (Not narrow others) = finished false narrow others
+yesOf Going = goesOn
+yesOf (Dominant narrow others) = endsWith true narrow others
+yesOf (Not narrow others) = endsWith false narrow others
 
--- what is said of a block that ends: "Rust's yes is narrow > 40 × others", and "the two figures it compared"
+-- "Rust's yes is narrow > 40 × others"; "A finished block's answer carries the two figures it compared"
+unfoldable pub judged : Float → Float → BlockAnswer
+judged narrow others = endsWith (dominanceRatio ⊗ others <ᶠ narrow) narrow others
+
+-- of a block that ends
 abbrev pub endedAnswer : ToneDominance → BlockAnswer
-endedAnswer d = finished (dominanceRatio ⊗ othersOf (d .own) (d .wideband) <ᶠ narrowOf (d .mark)) (narrowOf (d .mark)) (othersOf (d .own) (d .wideband))
+endedAnswer d = judged (narrowOf (d .mark)) (othersOf (d .own) (d .wideband))
+
+-- the filters after a sample, and what is said of the block
+pub record Answered : Type 0 where
+  pub state : ToneDominance
+  pub answer : BlockAnswer
+
+-- what the code answers, read so
+abbrev pub answeredBy : Judged → Answered
+answeredBy j = record { state = j .state; answer = yesOf (j .verdict) }
 
 -- ToneDominance::reset: a fresh block for the same filters
 unfoldable pub dominanceReset : ToneDominance → ToneDominance
@@ -180,15 +190,30 @@ withSample d x =
     }
 
 -- "blocks of 256": a full block is judged in the step that fills it, and a fresh one begins
-abbrev pub answered : ToneDominance → Judged
+abbrev pub answered : ToneDominance → Answered
 answered d =
     if ltb (d .count) 256
-    then record { state = d; verdict = Going }
-    else record { state = dominanceReset d; verdict = judged (narrowOf (d .mark)) (othersOf (d .own) (d .wideband)) }
+    then record { state = d; answer = goesOn }
+    else record { state = dominanceReset d; answer = endedAnswer d }
 
 -- ToneDominance::feed
-unfoldable pub dominanceStep : ToneDominance → Float → Judged
+unfoldable pub dominanceStep : ToneDominance → Float → Answered
 dominanceStep d x = answered (withSample d x)
+
+-- yes or no, of a block that ends
+abbrev pub yesIn : BlockAnswer → List Bool
+yesIn goesOn = []
+yesIn (endsWith dominant narrow others) = dominant ∷ []
+
+-- yes or no of each block that these samples end, in order
+unfoldable pub blocksIn : ToneDominance → List Float → List Bool
+blocksIn d [] = []
+blocksIn d (x ∷ xs) = yesIn (dominanceStep d x .answer) ++ blocksIn (dominanceStep d x .state) xs
+
+-- some block was dominant
+abbrev pub someYes : List Bool → Bool
+someYes [] = false
+someYes (dominant ∷ more) = dominant || someYes more
 
 -- the ratio that an update compares: the level after it, over the floor after it
 abbrev pub ratioIn : CarrierDetector → Float → Float

@@ -1,20 +1,19 @@
 -- rx.rs at 8,000 Hz, operation by operation: what one sample makes of the state, and what is heard in a list of samples. Assumes nothing.
 use Prim.Native.Nat.{ℕ, _<_, _+_, _≤_}
 use mathlib.Core.Bool.{Bool, true, false, _&&_, _||_}
-use mathlib.Core.List.{List, [], _∷_, _++_}
+use mathlib.Core.List.{List, [], _∷_, _++_, map}
 use lib.Ieee.{Float}
 use Rattle.numeric.specs.F64.{whole}
 use Rattle.numeric.specs.If.{if_then_else_}
 use Rattle.refusal.specs.Refusals.{dspRate}
 use Rattle.bell103.specs.Roles.{otherRole, tonesOf}
-use Rattle.framing.specs.Frame.{freshDeframer, bytesOf, heard, after}
+use Rattle.framing.specs.Frame.{freshDeframer, heard, after}
+use Rattle.framing.specs.Framing.{badStops}
 use Rattle.demodulation.specs.Correlation.{places, ringsOf, multiplied, advanced, correlated, freshRing, freshCorrelator}
-use Rattle.demodulation.specs.Timing.{ticked, sliced, freshTiming}
-use Rattle.demodulation.specs.Carrier.{freshDetector, updated, freshDominance, dominanceStep}
+use Rattle.demodulation.specs.Timing.{ticked, sliced, slicedBits, freshTiming}
+use Rattle.demodulation.specs.Carrier.{freshDetector, updated, BlockAnswer, goesOn, endsWith, freshDominance, dominanceStep}
 use Rattle.bell103.specs.declared.Role.{Role}
 use Rattle.bell103.specs.declared.TonePair.{TonePair}
-use Rattle.framing.specs.declared.frame.Heard.{Heard}
-use Rattle.framing.specs.declared.frame.Heard.the-variants.{Byte, Waiting}
 use Rattle.framing.specs.declared.frame.Deframer.{Deframer}
 use Rattle.happenings.specs.declared.happening.Happening.{Happening}
 use Rattle.happenings.specs.declared.happening.Happening.the-variants as happening
@@ -23,8 +22,6 @@ use Rattle.demodulation.specs.declared.carrier.ToneDominance.{ToneDomina
 use Rattle.demodulation.specs.declared.correlator.Correlator.{Correlator}
 use Rattle.demodulation.specs.declared.timing.Timing.{Timing}
 use Rattle.demodulation.specs.declared.carrier.CarrierDetector.{CarrierDetector}
-use Rattle.demodulation.specs.declared.carrier.Verdict.{Verdict}
-use Rattle.demodulation.specs.declared.carrier.Verdict.the-variants.{Going, Dominant, Not}
 use Rattle.demodulation.specs.declared.correlator.Rings.{Rings}
 use Rattle.demodulation.specs.declared.demod.Latch.{Latch}
 use Rattle.demodulation.specs.declared.demod.Event.{Event}
@@ -35,10 +32,9 @@ use Rattle.numeric.specs.Fold.{fold}
 
 -- ---- the latch, and its event
 -- a finished block's verdict opens or shuts the gate
-abbrev pub gateAfter : Bool → Verdict → Bool
-gateAfter gate Going = gate
-gateAfter gate (Dominant narrow others) = true
-gateAfter gate (Not narrow others) = false
+abbrev pub gateAfter : Bool → BlockAnswer → Bool
+gateAfter gate goesOn = gate
+gateAfter gate (endsWith dominant narrow others) = dominant
 
 -- qualified_ever: the gate was open once; qualified, which is reported: that, and the detector is up
 unfoldable pub latched : Latch → Bool → Bool → Latch
@@ -65,10 +61,10 @@ pub record Demodulator : Type 0 where
   pub timing : Timing
   pub deframer : Deframer
 
--- the state after a sample, and what came of it
+-- the state after a sample, and what came of it: the byte that it completed, one or none, and a change of the report
 pub record Step : Type 0 where
   pub state : Demodulator
-  pub heard : Heard
+  pub bytes : List ℕ
   pub event : Event
 
 -- "products, phases, ring place; dominance": a block that this sample ends has its say in this step
@@ -80,7 +76,7 @@ fed d s =
       rings = multiplied (d .rings) (d .corr) s;
       corr = advanced (d .corr);
       dominance = judged .state;
-      «gate_open» = gateAfter (d .«gate_open») (judged .verdict);
+      «gate_open» = gateAfter (d .«gate_open») (judged .answer);
       carrier = d .carrier;
       latch = d .latch;
       timing = d .timing;
@@ -105,7 +101,7 @@ finished d carrier latch soft =
             timing = t .state;
             deframer = bit .state;
           };
-      heard = bit .heard;
+      bytes = bit .bytes;
       event = eventOf (d .latch .qualified) (latch .qualified);
     }
 
@@ -119,7 +115,7 @@ decoded d =
 
 -- "nothing more until 27 samples are in"
 unfoldable pub stepOf : Demodulator → Float → Step
-stepOf d s = if fed d s .corr .filled then decoded (fed d s) else record { state = fed d s; heard = Waiting; event = Nothing }
+stepOf d s = if fed d s .corr .filled then decoded (fed d s) else record { state = fed d s; bytes = []; event = Nothing }
 
 -- ---- a fresh one
 abbrev pub freshOn : Kind → TonePair → TonePair → Demodulator
@@ -154,17 +150,16 @@ changeOf CarrierUp = happening.Up ∷ []
 changeOf CarrierDown = happening.Down ∷ []
 
 -- a byte that a bit completed
-abbrev pub wordOf : Heard → List Happening
-wordOf (Byte b) = happening.Byte b ∷ []
-wordOf Waiting = []
+abbrev pub wordOf : List ℕ → List Happening
+wordOf bytes = map happening.Byte bytes
 
 -- "detector; latch; event; timing; slice": in this order
-abbrev pub happensAt : Bool → Bool → Event → Heard → List Happening
-happensAt was up event heard = fallOf was up ++ (changeOf event ++ wordOf heard)
+abbrev pub happensAt : Bool → Bool → Event → List ℕ → List Happening
+happensAt was up event bytes = fallOf was up ++ (changeOf event ++ wordOf bytes)
 
 -- of a step from the state d
 abbrev pub happens : Demodulator → Step → List Happening
-happens d x = happensAt (d .carrier .detected) (x .state .carrier .detected) (x .event) (x .heard)
+happens d x = happensAt (d .carrier .detected) (x .state .carrier .detected) (x .event) (x .bytes)
 
 -- ---- a list of samples
 -- the state after a list of samples, and what they are heard as: all that happened, in order. The bytes, the losses and the changes of the
@@ -198,12 +193,37 @@ pub record Tuned (d : Demodulator) : Type 0 where
   pub byte : d .deframer .acc < 256
 
 -- ---- the deframer, bit by bit
--- n samples: the deframer before them, after them, and the bytes of at most n bits that the samples were sliced to
-pub record Sliced (d e : Deframer) (bytes : List ℕ) (n : ℕ) : Type 0 where
-  pub bits : List Bool
+-- the bit that a step slices: one, or none; "nothing more until 27 samples are in"
+unfoldable pub bitsAt : Demodulator → Float → List Bool
+bitsAt d s =
+    let o = correlated (fed d s .rings) in
+    if fed d s .corr .filled
+    then slicedBits (ticked (fed d s .timing) (o .soft) .boundary) (updated (fed d s .carrier) (o .energy) .detected) (o .soft)
+    else []
+
+-- the bits that these samples are sliced to, in order
+unfoldable pub bitsIn : Demodulator → List Float → List Bool
+bitsIn d [] = []
+bitsIn d (s ∷ ss) = bitsAt d s ++ bitsIn (stepOf d s .state) ss
+
+-- how many of them are spaces in stop position
+abbrev pub badStopsIn : Demodulator → List Float → ℕ
+badStopsIn d ss = badStops (d .deframer) (bitsIn d ss)
+
+-- "deframes the sliced bits": the deframer before these bits and after them, and the bytes that they yield; n samples made them
+pub record Sliced (d : Deframer) (bits : List Bool) (e : Deframer) (bytes : List ℕ) (n : ℕ) : Type 0 where
   pub few : length bits ≤ n
   pub left : after d bits ≡ e
   pub yields : heard d bits ≡ bytes
+
+-- ---- "nothing more until 27 samples are in"
+-- these samples bring nothing, and leave detector, latch, timing and deframer as they were
+pub record Waits (d : Demodulator) (ss : List Float) : Type 0 where
+  pub nothing : hearing d ss .happenings ≡ []
+  pub carrier : hearing d ss .after .carrier ≡ d .carrier
+  pub latch : hearing d ss .after .latch ≡ d .latch
+  pub timing : hearing d ss .after .timing ≡ d .timing
+  pub deframer : hearing d ss .after .deframer ≡ d .deframer
 
 -- ---- events
 -- what the last of them says; where there is none, as before

@@ -6,7 +6,6 @@ use Rattle.numeric.specs.If.{if_then_else_}
 use Rattle.demodulation.specs.Carrier.{updated, freshDetector, freshDominance, withSample, dominanceStep, BlockAnswer, endedAnswer}
 use Rattle.demodulation.specs.declared.carrier.CarrierDetector.{CarrierDetector}
 use Rattle.demodulation.specs.declared.carrier.ToneDominance.{ToneDominance}
-use Rattle.demodulation.specs.declared.carrier.Verdict.{Verdict}
 use Rattle.demodulation.specs.declared.selftest.Rise.{Rise}
 use Rattle.demodulation.specs.declared.selftest.Rise.the-variants.{At, Never}
 
@@ -32,10 +31,6 @@ freshBlock markHz ownMarkHz ownSpaceHz = freshDominance markHz ownMarkHz ownSpac
 abbrev pub allButOne : Float → Float → Float → Float → ToneDominance
 allButOne markHz ownMarkHz ownSpaceHz x = fed 255 x (freshBlock markHz ownMarkHz ownSpaceHz)
 
--- the verdict at the 256th
-abbrev pub blockVerdict : Float → Float → Float → Float → Verdict
-blockVerdict markHz ownMarkHz ownSpaceHz x = dominanceStep (allButOne markHz ownMarkHz ownSpaceHz x) x .verdict
-
--- and what it says: the block has ended
+-- what is said at the 256th: the block has ended
 abbrev pub blockSays : Float → Float → Float → Float → BlockAnswer
 blockSays markHz ownMarkHz ownSpaceHz x = endedAnswer (withSample (allButOne markHz ownMarkHz ownSpaceHz x) x)

@@ -1,12 +1,12 @@
 -- Symbol timing and the slicer (rx.rs), operation by operation. Assumes nothing.
 use mathlib.Core.Bool.{Bool, true, false, _&&_}
+use mathlib.Core.List.{List, [], _∷_}
 use lib.Ieee.{Float}
 use Rattle.numeric.specs.F64.{_⊕_, _⊖_, _⊗_, _⊘_, _<ᶠ_, _≤ᶠ_, f64, zero64, half64, one64, magnitude}
 use Rattle.numeric.specs.If.{if_then_else_}
 use Rattle.bell103.specs.Roles.{samplesPerSymbol}
-use Rattle.framing.specs.Frame.{waiting, pushBit}
+use Rattle.framing.specs.Frame.{Deframed, waiting, pushBit}
 use Rattle.framing.specs.declared.frame.Deframer.{Deframer}
-use Rattle.framing.specs.declared.frame.Pushed.{Pushed}
 use Rattle.demodulation.specs.declared.timing.Timing.{Timing}
 use Rattle.demodulation.specs.declared.timing.Ticked.{Ticked}
 
@@ -68,8 +68,12 @@ ticked t soft = endedAt (crossed t soft) soft
 
 -- ---- the slicer
 -- "slice at a boundary while the detector (not the latched report) is up, soft ≥ 0 being mark"; else the deframer keeps its half byte
-unfoldable pub sliced : Deframer → Bool → Bool → Float → Pushed
+unfoldable pub sliced : Deframer → Bool → Bool → Float → Deframed
 sliced d boundary up soft = if boundary && up then pushBit d (zero64 ≤ᶠ soft) else waiting d
+
+-- the bit that it takes so: one, or none
+unfoldable pub slicedBits : Bool → Bool → Float → List Bool
+slicedBits boundary up soft = if boundary && up then (zero64 ≤ᶠ soft) ∷ [] else []
 
 -- ---- a fresh one
 abbrev pub freshTiming : Timing

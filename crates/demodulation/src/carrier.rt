@@ -5,7 +5,7 @@ ghost use mathlib.Core.Path.{_≡_};
 ghost use mathlib.Core.List.{map};
 ghost use Rattle.demodulation.specs.Goertzel.{goertzelFeed, goertzelReset};
 ghost use Rattle.demodulation.specs.Carrier.{floorOf, ratioOf, whileUp, whileDown, freshDetector, updated};
-ghost use Rattle.demodulation.specs.Carrier.{narrowOf, ownEnergy, othersOf, judged, freshDominance, dominanceReset, dominanceStep};
+ghost use Rattle.demodulation.specs.Carrier.{narrowOf, ownEnergy, othersOf, yesOf, judged, answeredBy, freshDominance, dominanceReset, dominanceStep};
 
 const RISE_RATIO: f64 = 4.0;
 
@@ -208,7 +208,7 @@ fn others_of(gs: [Goertzel; 2], wideband: f64) -> f64
 }
 
 fn judge(narrow: f64, others: f64) -> Verdict
-    ensures { λ r. ⌜ r ≡ judged narrow others ⌝ }
+    ensures { λ r. ⌜ yesOf r ≡ judged narrow others ⌝ }
 {
     if narrow > DOMINANCE_RATIO * others {
         Verdict::Dominant(narrow, others)
@@ -260,7 +260,7 @@ impl ToneDominance {
     }
 
     pub(crate) fn feed(self, x: f64) -> Judged
-        ensures { λ r. ⌜ r ≡ dominanceStep self x ⌝ }
+        ensures { λ r. ⌜ answeredBy r ≡ dominanceStep self x ⌝ }
     {
         let m = self.mark;
         let o = self.own;

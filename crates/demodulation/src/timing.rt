@@ -5,6 +5,7 @@ use framing::frame::Heard;
 use framing::frame::Pushed;
 use numeric::compare::absolute;
 ghost use mathlib.Core.Path.{_≡_};
+ghost use Rattle.framing.specs.Frame.{deframed};
 ghost use Rattle.demodulation.specs.Timing.{errorOf, movedBy, crossed, bounded, ticked, freshTiming, sliced};
 
 const GARDNER_GAIN: f64 = 0.15;
@@ -105,7 +106,7 @@ impl Timing {
 
 // A bit for the deframer at a boundary while the detector is up. A tie is a mark, the idle line's state.
 pub fn slice(deframer: Deframer, boundary: bool, detected: bool, soft: f64) -> Pushed
-    ensures { λ r. ⌜ r ≡ sliced deframer boundary detected soft ⌝ }
+    ensures { λ r. ⌜ deframed r ≡ sliced deframer boundary detected soft ⌝ }
 {
     if boundary {
         if detected {

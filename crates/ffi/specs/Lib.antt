@@ -1,2 +1,2 @@
--- What the functions exported to C give, beside what `calls`, `receivecalls`, `states`, `sendcalls` and `boardnumbers` say.
+-- What the functions exported to C give, beside what `calls` and `snapshot` say.
 pub mod Listen

@@ -6,7 +6,7 @@ use calls::role_of;
 use refusal::rate_ok;
 ghost use mathlib.Core.Path.{_≡_};
 ghost use Rattle.board.specs.Plain.{newNumber};
-ghost use Rattle.ffi.specs.Listen.{Heard};
+ghost use Rattle.ffi.specs.Listen.{ran, Heard};
 
 // Why a board of this rate and station is refused: 1, 2, or 0 where it is not.
 #[no_mangle]
@@ -34,8 +34,8 @@ pub extern "C" fn morkhetta_listen(
     shown: &mut [u64],
 ) -> usize
     ensures { λ r. ⌜
-        Heard rate station role (now (samples .entry)) (now (lengths .entry))
-        (now (answers .entry)) (now (shown .entry)) r (now (answers .exit)) (now (shown .exit)) ⌝ }
+        Heard rate station role (now (samples .entry)) (now (lengths .entry)) (now (answers .entry)) (now (shown .entry))
+        (ran r (now (answers .exit)) (now (shown .exit))) ⌝ }
 {
     let heard = listen(rate, station, role_of(role), samples, lengths, answers);
     let answer = heard.answer;

@@ -1,8 +1,11 @@
 // The sender, exported to C.
 use calls::sent_from_fresh;
+use snapshot::sender_state_from_fresh;
 ghost use mathlib.Core.Path.{_≡_};
 ghost use Rattle.calls.specs.Resample.{ran};
 ghost use Rattle.calls.specs.Send.{sendRun};
+ghost use Rattle.snapshot.specs.ResamplerState.{traced};
+ghost use Rattle.snapshot.specs.SenderState.{senderStateRun};
 
 #[no_mangle]
 pub extern "C" fn morkhetta_send(
@@ -18,4 +21,21 @@ pub extern "C" fn morkhetta_send(
         ≡ sendRun rate role (now («data» .entry)) (now (script .entry)) (now (samples .entry)) (now (answers .entry)) ⌝ }
 {
     sent_from_fresh(rate, role, data, script, samples, answers)
+}
+
+#[no_mangle]
+pub extern "C" fn morkhetta_sender_state(
+    rate: u32,
+    role: u32,
+    data: &[u8],
+    script: &[u64],
+    samples: &mut [f32],
+    answers: &mut [u64],
+    state: &mut [f64],
+) -> usize
+    ensures { λ r. ⌜
+        traced (ran r (now (samples .exit)) (now (answers .exit))) (now (state .exit))
+        ≡ senderStateRun rate role (now («data» .entry)) (now (script .entry)) (now (samples .entry)) (now (answers .entry)) (now (state .entry)) ⌝ }
+{
+    sender_state_from_fresh(rate, role, data, script, samples, answers, state)
 }

@@ -1,7 +1,7 @@
 -- What is framed is heard, and what is heard was framed. Assumes nothing.
 use Prim.Native.Nat.{ℕ, zero, suc, _+_, _*_, _/_, _<_, _≤_, min}
 use mathlib.Core.Path.{_≡_, refl, sym, ap, subst, _∙_}
-use mathlib.Core.Bool.{Bool, true, false, _&&_}
+use mathlib.Core.Bool.{Bool, true, false, not, _&&_}
 use mathlib.Core.List.{List, [], _∷_, _++_, append-assoc}
 use native.Mathlib.Omega.{arith}
 use borrow.Author.Tests.{ltb-true, ltb-false}
@@ -9,19 +9,18 @@ use lib.Dec.{T, ltb, ltb→lt, eqb, eqb→eq}
 use lib.ListN.{length, length-append}
 use Rattle.numeric.specs.If.{if_then_else_}
 use Rattle.framing.specs.declared.frame.Deframer.{Deframer}
-use Rattle.framing.specs.declared.frame.Pushed.{Pushed}
-use Rattle.framing.specs.Frame.{mark, space, frameOf, Idle, oneMore, mostErrors, idleBit, dataBit, stopBit, badStop, pushBit, bytesOf, heard, after}
+use Rattle.framing.specs.Frame.{mark, space, frameOf, freshDeframer, Idle, oneMore, mostErrors, idleBit, dataBit, stopBit, badStop, Deframed, pushBit, heard, after}
 use Rattle.framing.proofs.FrameLaws.{push-idle, push-data, push-stop}
 use Rattle.numeric.proofs.Tested.{both-left, both-right, at-number, at-bits, sameBits, same-bits}
-use Rattle.framing.specs.Framing.{Sent, marks, framesOf, line, bytesSent, AreBytes, HeardAs, AtStop, SpaceAtStop, held}
+use Rattle.framing.specs.Framing.{Sent, marks, framesOf, line, bytesSent, AreBytes, HeardAs, AtStop, SpaceAtStop, held, isBadStop, badStops}
 
 -- ---- one list of bits after another
 pub heard-append : (d : Deframer) (xs ys : List Bool) → heard d (xs ++ ys) ≡ heard d xs ++ heard (after d xs) ys
 unfolding heard after
 heard-append d [] ys = refl
 heard-append d (x ∷ xs) ys =
-    ap (λ (l : List ℕ). bytesOf (pushBit d x .heard) ++ l) (heard-append (pushBit d x .state) xs ys)
-    ∙ sym (append-assoc (bytesOf (pushBit d x .heard)) (heard (pushBit d x .state) xs) (heard (after (pushBit d x .state) xs) ys))
+    ap (λ (l : List ℕ). pushBit d x .bytes ++ l) (heard-append (pushBit d x .state) xs ys)
+    ∙ sym (append-assoc (pushBit d x .bytes) (heard (pushBit d x .state) xs) (heard (after (pushBit d x .state) xs) ys))
 
 pub after-append : (d : Deframer) (xs ys : List Bool) → after d (xs ++ ys) ≡ after (after d xs) ys
 unfolding after
@@ -116,11 +115,11 @@ pub bad-stop : (d : Deframer) → AtStop d → SpaceAtStop d
 unfolding heard after stopBit badStop
 bad-stop d at =
     let e : pushBit d space ≡ badStop d = push-stop d space (at .0) (at .1) in
-    let i : Idle (after d (space ∷ [])) = ap (λ (x : Pushed). x .state .«in_frame») e in
+    let i : Idle (after d (space ∷ [])) = ap (λ (x : Deframed). x .state .«in_frame») e in
     record {
-      one-error = ap (λ (x : Pushed). x .state .errors) e;
+      one-error = ap (λ (x : Deframed). x .state .errors) e;
       idle = i;
-      nothing = ap (λ (x : Pushed). bytesOf (x .heard) ++ []) e;
+      nothing = ap (λ (x : Deframed). x .bytes ++ []) e;
       starts-nothing = marks-heard (after d (space ∷ [])) i;
     }
 
@@ -144,40 +143,89 @@ held-most d = go (d .«in_frame»)
     go true = omega arith
     go false = omega arith
 
--- ten for each byte of an answer, and the bits held after it
-abbrev spent : Pushed → ℕ
-spent x = 10 * length (bytesOf (x .heard)) + held (x .state)
+-- ---- what a bit spends
+-- ten bits for a byte or a bad stop: what a bit completes, and the bits held behind it; and the error count, which is one more at a bad stop alone
+record Spends (d : Deframer) (bad : Bool) (x : Deframed) : Type 0 where
+  few : 10 * (length (x .bytes) + (if bad then 1 else 0)) + held (x .state) ≤ held d + 1
+  errors : x .state .errors ≡ (if bad then oneMore (d .errors) else d .errors)
 
-idle-few : (d : Deframer) (bit : Bool) → spent (idleBit d bit) ≤ held d + 1
+idle-spends : (d : Deframer) (bit : Bool) → Spends d false (idleBit d bit)
 unfolding idleBit
-idle-few d true = omega arith
-idle-few d false = omega arith
+idle-spends d true = record { few = omega arith; errors = refl }
+idle-spends d false = record { few = omega arith; errors = refl }
 
-stop-few : (d : Deframer) (bit : Bool) → spent (stopBit d bit) ≤ 10
-unfolding stopBit badStop
-stop-few d true = omega arith
-stop-few d false = omega arith
-
-step-few : (d : Deframer) (bit : Bool) → spent (pushBit d bit) ≤ held d + 1
+data-spends : (d : Deframer) (bit : Bool) → d .«in_frame» ≡ true → d .«bit_count» < 8 → Spends d false (dataBit d bit)
 unfolding dataBit
-step-few d bit = either (d .«in_frame») refl
-  where
-    within : d .«in_frame» ≡ true → (t : Bool) → ltb (d .«bit_count») 8 ≡ t → spent (pushBit d bit) ≤ held d + 1
-    within e true t = rw (push-data d bit e (ltb-true _ _ t)) (omega (arith, held-frame d e, held-frame (dataBit d bit .state) e))
-    within e false t = rw (push-stop d bit e (ltb-false _ _ t)) (omega (arith, stop-few d bit, held-frame d e, ltb-false (d .«bit_count») 8 t))
+data-spends d bit e h = record { few = omega (arith, held-frame d e, held-frame (dataBit d bit .state) e); errors = refl }
 
-    either : (f : Bool) → d .«in_frame» ≡ f → spent (pushBit d bit) ≤ held d + 1
-    either false e = rw (push-idle d bit e) (idle-few d bit)
+stop-spends : (d : Deframer) (bit : Bool) → d .«in_frame» ≡ true → 8 ≤ d .«bit_count» → Spends d (not bit) (stopBit d bit)
+unfolding stopBit badStop
+stop-spends d true e h = record { few = omega (arith, held-frame d e); errors = refl }
+stop-spends d false e h = record { few = omega (arith, held-frame d e); errors = refl }
+
+bad-is : (d : Deframer) (bit f t : Bool) → d .«in_frame» ≡ f → ltb (d .«bit_count») 8 ≡ t → isBadStop d bit ≡ f && (not t && not bit)
+bad-is d bit f t p q = ap (λ (x : Bool). x && (not (ltb (d .«bit_count») 8) && not bit)) p ∙ ap (λ (x : Bool). f && (not x && not bit)) q
+
+bit-spends : (d : Deframer) (bit : Bool) → Spends d (isBadStop d bit) (pushBit d bit)
+bit-spends d bit = either (d .«in_frame») refl
+  where
+    within : d .«in_frame» ≡ true → (t : Bool) → ltb (d .«bit_count») 8 ≡ t → Spends d (isBadStop d bit) (pushBit d bit)
+    within e true t = rw (push-data d bit e (ltb-true _ _ t), bad-is d bit true true e t) (data-spends d bit e (ltb-true _ _ t))
+    within e false t = rw (push-stop d bit e (ltb-false _ _ t), bad-is d bit true false e t) (stop-spends d bit e (ltb-false _ _ t))
+
+    either : (f : Bool) → d .«in_frame» ≡ f → Spends d (isBadStop d bit) (pushBit d bit)
+    either false e = rw (push-idle d bit e, bad-is d bit false _ e refl) (idle-spends d bit)
     either true e = within e (ltb (d .«bit_count») 8) refl
 
--- ten bits make a byte: from any state, ten for each byte heard are at most the bits held before and the bits pushed
-pub heard-few : (d : Deframer) (bits : List Bool) → 10 * length (heard d bits) + held (after d bits) ≤ held d + length bits
-unfolding heard after
-heard-few d [] = omega arith
-heard-few d (bit ∷ bits) =
-    rw (length-append (bytesOf (pushBit d bit .heard)) (heard (pushBit d bit .state) bits))
-    (omega (arith, step-few d bit, heard-few (pushBit d bit .state) bits))
+-- at most one byte a bit
+pub one-byte : (d : Deframer) (bit : Bool) → length (pushBit d bit .bytes) ≤ 1
+one-byte d bit = omega (arith, bit-spends d bit .few, held-most d)
 
+-- ten bits make a byte or a bad stop: from any state, ten for each are at most the bits held before and the bits pushed
+pub completed-few : (d : Deframer) (bits : List Bool) → 10 * (length (heard d bits) + badStops d bits) + held (after d bits) ≤ held d + length bits
+unfolding heard badStops after
+completed-few d [] = omega arith
+completed-few d (bit ∷ bits) =
+    rw (length-append (pushBit d bit .bytes) (heard (pushBit d bit .state) bits))
+    (omega (arith, bit-spends d bit .few, completed-few (pushBit d bit .state) bits))
+
+-- bytes alone
+pub heard-few : (d : Deframer) (bits : List Bool) → 10 * length (heard d bits) + held (after d bits) ≤ held d + length bits
+heard-few d bits = omega (arith, completed-few d bits)
+
+-- ---- the error count
+counts-one : (bad : Bool) (e f n : ℕ) → f ≡ (if bad then oneMore e else e) → e + ((if bad then 1 else 0) + n) ≤ mostErrors → f + n ≡ e + ((if bad then 1 else 0) + n)
+counts-one true e f n p h = omega arith
+counts-one false e f n p h = omega arith
+
+counts-most : (bad : Bool) (e f : ℕ) → f ≡ (if bad then oneMore e else e) → f ≤ e + (if bad then 1 else 0)
+counts-most true e f p = omega arith
+counts-most false e f p = omega arith
+
+-- where it has not held, it has grown by the number of bad stops
+pub errors-are : (d : Deframer) (bits : List Bool) → d .errors + badStops d bits ≤ mostErrors → after d bits .errors ≡ d .errors + badStops d bits
+unfolding badStops after
+errors-are d [] h = omega arith
+errors-are d (bit ∷ bits) h =
+    let e = counts-one (isBadStop d bit) (d .errors) (pushBit d bit .state .errors) (badStops (pushBit d bit .state) bits) (bit-spends d bit .errors) h in
+    errors-are (pushBit d bit .state) bits (omega arith) ∙ e
+
+-- it never grows by more
+pub errors-most : (d : Deframer) (bits : List Bool) → after d bits .errors ≤ d .errors + badStops d bits
+unfolding badStops after
+errors-most d [] = omega arith
+errors-most d (bit ∷ bits) =
+    omega (arith, counts-most (isBadStop d bit) (d .errors) (pushBit d bit .state .errors) (bit-spends d bit .errors), errors-most (pushBit d bit .state) bits)
+
+-- from fresh, by fewer bits than ten for each error that fits: it never held, and is the number of bad stops
+pub errors-fresh : (bits : List Bool) → length bits < 10 * mostErrors
+    → (after freshDeframer bits .errors ≡ badStops freshDeframer bits) × (after freshDeframer bits .errors < mostErrors)
+errors-fresh bits h =
+    let f = completed-few freshDeframer bits in
+    let e = errors-are freshDeframer bits (omega arith) in
+    (omega arith, omega arith)
+
+-- ---- bytes alone
 -- from idle
 pub heard-few-idle : (d : Deframer) → Idle d → (bits : List Bool) → length (heard d bits) ≤ length bits / 10
 heard-few-idle d p bits = omega (arith, heard-few d bits, held-idle d p)

@@ -34,12 +34,26 @@ freshDeframer = record { «in_frame» = false; «bit_count» = 0; acc = 0; error
 abbrev pub Idle : Deframer → Type 0
 Idle d = d .«in_frame» ≡ false
 
+-- what a bit gives: the deframer after it, and the byte that it completes, one or none
+pub record Deframed : Type 0 where
+  pub state : Deframer
+  pub bytes : List ℕ
+
+-- the byte that each case of an answer gives: one, or none
+abbrev pub bytesOf : Heard → List ℕ
+bytesOf (Byte b) = b ∷ []
+bytesOf Waiting = []
+
+-- what the code answers, read so
+abbrev pub deframed : Pushed → Deframed
+deframed x = record { state = x .state; bytes = bytesOf (x .heard) }
+
 -- this state, and no byte
-abbrev pub waiting : Deframer → Pushed
-waiting d = record { state = d; heard = Waiting }
+abbrev pub waiting : Deframer → Deframed
+waiting d = record { state = d; bytes = [] }
 
 -- a bit while idle: a space starts a frame, a mark changes nothing
-unfoldable pub idleBit : Deframer → Bool → Pushed
+unfoldable pub idleBit : Deframer → Bool → Deframed
 idleBit d bit =
     if bit then waiting d
     else waiting (record { «in_frame» = true; «bit_count» = 0; acc = 0; errors = d .errors })
@@ -49,7 +63,7 @@ abbrev pub withBit : ℕ → ℕ → Bool → ℕ
 withBit acc k bit = if bit then bitOr acc (2 ^ k) else acc
 
 -- a data bit: one more bit of the byte
-unfoldable pub dataBit : Deframer → Bool → Pushed
+unfoldable pub dataBit : Deframer → Bool → Deframed
 dataBit d bit =
     waiting
     (record {
@@ -71,33 +85,28 @@ abbrev pub ended : Deframer → ℕ → Deframer
 ended d e = record { «in_frame» = false; «bit_count» = d .«bit_count»; acc = d .acc; errors = e }
 
 -- "A space in stop position adds one error, returns to idle and starts nothing"
-unfoldable pub badStop : Deframer → Pushed
-badStop d = record { state = ended d (oneMore (d .errors)); heard = Waiting }
+unfoldable pub badStop : Deframer → Deframed
+badStop d = waiting (ended d (oneMore (d .errors)))
 
 -- a bit in stop position: a mark gives the byte
-unfoldable pub stopBit : Deframer → Bool → Pushed
+unfoldable pub stopBit : Deframer → Bool → Deframed
 stopBit d bit =
-    if bit then record { state = ended d (d .errors); heard = Byte (d .acc) }
+    if bit then record { state = ended d (d .errors); bytes = d .acc ∷ [] }
     else badStop d
 
 -- a bit in a frame: eight data bits, then the stop bit
-abbrev pub frameBit : Deframer → Bool → Pushed
+abbrev pub frameBit : Deframer → Bool → Deframed
 frameBit d bit = if ltb (d .«bit_count») 8 then dataBit d bit else stopBit d bit
 
 -- one bit
-unfoldable pub pushBit : Deframer → Bool → Pushed
+unfoldable pub pushBit : Deframer → Bool → Deframed
 pushBit d bit = if d .«in_frame» then frameBit d bit else idleBit d bit
 
 -- ---- a list of bits
--- the bytes that an answer gives: one, or none
-abbrev pub bytesOf : Heard → List ℕ
-bytesOf (Byte b) = b ∷ []
-bytesOf Waiting = []
-
 -- the bytes that these bits yield, in order
 unfoldable pub heard : Deframer → List Bool → List ℕ
 heard d [] = []
-heard d (bit ∷ bits) = bytesOf (pushBit d bit .heard) ++ heard (pushBit d bit .state) bits
+heard d (bit ∷ bits) = pushBit d bit .bytes ++ heard (pushBit d bit .state) bits
 
 -- the deframer after these bits
 unfoldable pub after : Deframer → List Bool → Deframer

@@ -1,12 +1,13 @@
 -- What is framed is heard, and what is heard was framed. Assumes nothing.
 use Prim.Native.Nat.{ℕ, _+_, _<_, _≤_, min}
 use mathlib.Core.Path.{_≡_}
-use mathlib.Core.Bool.{Bool, true}
+use mathlib.Core.Bool.{Bool, true, not, _&&_}
 use mathlib.Core.List.{List, [], _∷_, _++_}
+use lib.Dec.{ltb}
 use lib.ListN.{replicate}
 use Rattle.numeric.specs.If.{if_then_else_}
 use Rattle.framing.specs.declared.frame.Deframer.{Deframer}
-use Rattle.framing.specs.Frame.{mark, space, frameOf, Idle, oneMore, heard, after}
+use Rattle.framing.specs.Frame.{mark, space, frameOf, Idle, oneMore, pushBit, heard, after}
 
 -- ---- framed bytes are heard
 -- a byte that is sent, and the number of marks before its frame
@@ -55,7 +56,16 @@ pub record SpaceAtStop (d : Deframer) : Type 0 where
   pub nothing : heard d (space ∷ []) ≡ []
   pub starts-nothing : (n : ℕ) → HeardAs (after d (space ∷ [])) (marks n) []
 
--- ---- how many bytes so many bits can yield
+-- ---- how many bytes and bad stops so many bits can make
+-- this bit is a space in stop position
+abbrev pub isBadStop : Deframer → Bool → Bool
+isBadStop d bit = d .«in_frame» && (not (ltb (d .«bit_count») 8) && not bit)
+
+-- how many of these bits are
+unfoldable pub badStops : Deframer → List Bool → ℕ
+badStops d [] = 0
+badStops d (bit ∷ bits) = (if isBadStop d bit then 1 else 0) + badStops (pushBit d bit .state) bits
+
 -- bits that the frame at hand has so far: none while idle, else the start bit and at most eight data bits
 abbrev pub held : Deframer → ℕ
 held d = if d .«in_frame» then 1 + min (d .«bit_count») 8 else 0

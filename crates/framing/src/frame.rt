@@ -1,7 +1,7 @@
 // 8-N-1 asynchronous framing. `true` is mark, which is binary 1.
 ghost use mathlib.Core.Path.{_≡_};
 ghost use Prim.Native.Nat.{_<_};
-ghost use Rattle.framing.specs.Frame.{frameOf, freshDeframer, waiting, withBit, oneMore, idleBit, dataBit, stopBit, badStop, pushBit};
+ghost use Rattle.framing.specs.Frame.{frameOf, freshDeframer, bytesOf, deframed, waiting, withBit, oneMore, idleBit, dataBit, stopBit, badStop, pushBit};
 
 // One byte as ten bits: a space start bit, eight data bits lowest first, a mark stop bit.
 pub fn frame_byte(b: u8) -> [bool; 10]
@@ -63,7 +63,7 @@ impl Deframer {
 
     // Takes one bit, in any state.
     pub fn push_bit(self, mark: bool) -> Pushed
-        ensures { λ r. ⌜ r ≡ pushBit self mark ⌝ }
+        ensures { λ r. ⌜ deframed r ≡ pushBit self mark ⌝ }
     {
         if self.in_frame {
             if self.bit_count < 8 {
@@ -76,7 +76,7 @@ impl Deframer {
 
     // A space while idle is a start bit.
     fn idle_bit(mut self, mark: bool) -> Pushed
-        ensures { λ r. ⌜ r ≡ idleBit self mark ⌝ }
+        ensures { λ r. ⌜ deframed r ≡ idleBit self mark ⌝ }
     {
         if mark {
             return self.waiting();
@@ -90,7 +90,7 @@ impl Deframer {
     // One of the eight data bits, lowest first.
     fn data_bit(mut self, mark: bool) -> Pushed
         requires { ⌜ self .«bit_count» < 8 ⌝ }
-        ensures { λ r. ⌜ r ≡ dataBit self mark ⌝ }
+        ensures { λ r. ⌜ deframed r ≡ dataBit self mark ⌝ }
     {
         self.acc = with_bit(self.acc, self.bit_count, mark);
         self.bit_count += 1;
@@ -99,7 +99,7 @@ impl Deframer {
 
     // The bit in stop position: a mark gives the byte.
     fn stop_bit(mut self, mark: bool) -> Pushed
-        ensures { λ r. ⌜ r ≡ stopBit self mark ⌝ }
+        ensures { λ r. ⌜ deframed r ≡ stopBit self mark ⌝ }
     {
         if mark {
             self.in_frame = false;
@@ -113,7 +113,7 @@ impl Deframer {
 
     // A space in stop position: counted, and no start bit.
     fn bad_stop(mut self) -> Pushed
-        ensures { λ r. ⌜ r ≡ badStop self ⌝ }
+        ensures { λ r. ⌜ deframed r ≡ badStop self ⌝ }
     {
         self.in_frame = false;
         self.errors = one_more(self.errors);
@@ -125,7 +125,7 @@ impl Deframer {
 
     // This state, and no byte.
     fn waiting(self) -> Pushed
-        ensures { λ r. ⌜ r ≡ waiting self ⌝ }
+        ensures { λ r. ⌜ deframed r ≡ waiting self ⌝ }
     {
         Pushed {
             state: self,
@@ -155,7 +155,7 @@ fn one_more(errors: u32) -> u32
 
 // The step through a lent reference, as the Rust has it: thin, over the step by value.
 pub fn push_bit(d: &mut Deframer, mark: bool) -> Heard
-    ensures { λ r. ⌜ (r ≡ pushBit (now (d .entry)) mark .heard) × (now (d .exit) ≡ pushBit (now (d .entry)) mark .state) ⌝ }
+    ensures { λ r. ⌜ (bytesOf r ≡ pushBit (now (d .entry)) mark .bytes) × (now (d .exit) ≡ pushBit (now (d .entry)) mark .state) ⌝ }
 {
     let p = Deframer::push_bit(*d, mark);
     *d = p.state;

@@ -1,6 +1,6 @@
--- The reader and a board that acts on its progress hear what the definition hears. Assumes nothing.
+-- The reader and a host that acts on its progress hear what the definition hears. Assumes nothing.
 use Prim.Native.Nat.{ℕ, _+_, _≤_, _<_}
-use mathlib.Core.Path.{_≡_, refl, sym, ap, _∙_}
+use mathlib.Core.Path.{_≡_, refl, sym, ap, subst, _∙_}
 use mathlib.Core.Bool.{Bool, true, false}
 use mathlib.Core.List.{List, [], _∷_, _++_}
 use native.Mathlib.Numerals.{add-one}
@@ -11,17 +11,22 @@ use lib.ListN.{length, take, drop, getD, set, length-set}
 use lib.Seq.{drop-cons, drop-length, length-take-le, take-suc-set, take-all}
 use lib.Ieee.{Float}
 use Rattle.numeric.specs.If.{if_then_else_}
-use Rattle.bell103.specs.declared.Role.{Role}
-use Rattle.board.specs.Plain as plain
-use Rattle.wav.specs.Wav.{addByte}
+use Rattle.wav.specs.Wav.{addByte, finishOf}
 use Rattle.wav.specs.declared.wav.Wav.{Wav}
 use Rattle.wav.specs.declared.wav.Step.{Step}
 use Rattle.wav.specs.declared.wav.Out.{Out}
 use Rattle.wav.specs.declared.wav.Out.the-variants as out
+use Rattle.wav.specs.declared.wav.End.{End}
 use Rattle.listen_app.specs.BlockReader.{blockLength, Gathered, BlockReaderSound, withSample, readerOut, readerByte, isQuiet}
-use Rattle.listen_app.specs.Listener.{Listener, heardBlock, heardSample, heardOut, heardByte, heardBytes, view, actedBy, acted}
+use Rattle.listen_app.specs.BlockReaderRep.{gathered}
+use Rattle.listen_app.specs.Host.{PlainHost, heardBlock}
+use Rattle.listen_app.specs.HostRep.{hostOf, Hosts}
+use Rattle.listen_app.specs.Listener.{Listener, listener, heardSample, heardOut, heardByte, heardBytes, ended, view, actedBy, acted}
+use Rattle.listen_app.specs.Session.{SessionSound, listening, HeardSome, HeardAll}
 use Rattle.listen_app.specs.declared.block_reader.Progress.{Progress}
 use Rattle.listen_app.specs.declared.block_reader.Progress.the-variants as progress
+use Rattle.listen_app.specs.declared.session.Session.{Session}
+use Rattle.listen_app.specs.declared.session.Closed.{Closed}
 
 -- the samples so far, and one more
 more : (e : Gathered) (x : Float) → BlockReaderSound (e .block) (e .n) → take (e .n + 1) (set (e .block) (e .n) x) ≡ take (e .n) (e .block) ++ x ∷ []
@@ -35,10 +40,10 @@ full e x s h =
 held-length : (e : Gathered) → BlockReaderSound (e .block) (e .n) → length (take (e .n) (e .block)) ≡ e .n
 held-length e s = length-take-le (e .n) (e .block) (omega (arith, s .few, s .room))
 
-sample-heard : (station : ℕ) (role : Role) (board : plain.Plain) (lines : ℕ) (e : Gathered) (w : Wav) (x : Float) → BlockReaderSound (e .block) (e .n)
-    → acted station role board lines (withSample e w x) ≡ heardSample (view e board lines) w x
+sample-heard : (h : PlainHost) (e : Gathered) (w : Wav) (x : Float) → BlockReaderSound (e .block) (e .n)
+    → acted h (withSample e w x) ≡ heardSample (view e h) w x
 unfolding withSample heardSample actedBy
-sample-heard station role board lines e w x s = rw (held-length e s) (by (eqb (e .n + 1) blockLength) refl)
+sample-heard h e w x s = rw (held-length e s) (by (eqb (e .n + 1) blockLength) refl)
   where
     a : Gathered
     a = record { wav = w; block = set (e .block) (e .n) x; n = 0; progress = progress.Block }
@@ -47,45 +52,40 @@ sample-heard station role board lines e w x s = rw (held-length e s) (by (eqb (e
     b = record { wav = w; block = set (e .block) (e .n) x; n = e .n + 1; progress = progress.None }
 
     by : (t : Bool) → eqb (e .n + 1) blockLength ≡ t
-        → acted station role board lines (if t then a else b)
-        ≡ (if t
-        then heardBlock w [] board lines (take (e .n) (e .block) ++ x ∷ [])
-        else record { wav = w; held = take (e .n) (e .block) ++ x ∷ []; board = board; lines = lines })
-    by true q = ap (heardBlock w [] board lines) (full e x s (eqb-true (e .n + 1) blockLength q))
-    by false q = ap (λ (h : List Float). record { wav = w; held = h; board = board; lines = lines }) (more e x s)
+        → acted h (if t then a else b)
+        ≡ (if t then listener w [] (heardBlock h (take (e .n) (e .block) ++ x ∷ [])) else listener w (take (e .n) (e .block) ++ x ∷ []) h)
+    by true q = ap (λ (xs : List Float). listener w [] (heardBlock h xs)) (full e x s (eqb-true (e .n + 1) blockLength q))
+    by false q = ap (λ (xs : List Float). listener w xs h) (more e x s)
 
-out-heard : (station : ℕ) (role : Role) (board : plain.Plain) (lines : ℕ) (e : Gathered) (o : Out) (w : Wav) → BlockReaderSound (e .block) (e .n)
-    → acted station role board lines (readerOut o e w) ≡ heardOut station role o (view e board lines) w
+out-heard : (h : PlainHost) (e : Gathered) (o : Out) (w : Wav) → BlockReaderSound (e .block) (e .n)
+    → acted h (readerOut o e w) ≡ heardOut o (view e h) w
 unfolding readerOut heardOut actedBy
-out-heard station role board lines e out.Going w s = refl
-out-heard station role board lines e (out.Start rate) w s = refl
-out-heard station role board lines e (out.Sample x) w s = sample-heard station role board lines e w x s
-out-heard station role board lines e (out.Bad f) w s = refl
+out-heard h e out.Going w s = refl
+out-heard h e (out.Start rate) w s = refl
+out-heard h e (out.Sample x) w s = sample-heard h e w x s
+out-heard h e (out.Bad f) w s = refl
 
-byte-heard : (station : ℕ) (role : Role) (board : plain.Plain) (lines : ℕ) (e : Gathered) (b : ℕ) → BlockReaderSound (e .block) (e .n)
-    → acted station role board lines (readerByte e b) ≡ heardByte station role (view e board lines) b
+byte-heard : (h : PlainHost) (e : Gathered) (b : ℕ) → BlockReaderSound (e .block) (e .n) → acted h (readerByte e b) ≡ heardByte (view e h) b
 unfolding readerByte heardByte
-byte-heard station role board lines e b s = out-heard station role board lines e (addByte (e .wav) b .out) (addByte (e .wav) b .state) s
+byte-heard h e b s = out-heard h e (addByte (e .wav) b .out) (addByte (e .wav) b .state) s
 
-quiet-acted : (station : ℕ) (role : Role) (board : plain.Plain) (lines : ℕ) (e : Gathered) (n : Progress) → isQuiet n ≡ true
-    → actedBy n station role board lines e ≡ view e board lines
+quiet-acted : (h : PlainHost) (e : Gathered) (n : Progress) → isQuiet n ≡ true → actedBy n h e ≡ view e h
 unfolding actedBy
-quiet-acted station role board lines e progress.None k = refl
-quiet-acted station role board lines e (progress.Start rate) k = absurd (let z : _≡_ {A = ℕ} 0 1 = cc in omega arith)
-quiet-acted station role board lines e progress.Block k = absurd (let z : _≡_ {A = ℕ} 0 1 = cc in omega arith)
-quiet-acted station role board lines e (progress.Bad f) k = absurd (let z : _≡_ {A = ℕ} 0 1 = cc in omega arith)
+quiet-acted h e progress.None k = refl
+quiet-acted h e (progress.Start rate) k = absurd (let z : _≡_ {A = ℕ} 0 1 = cc in omega arith)
+quiet-acted h e progress.Block k = absurd (let z : _≡_ {A = ℕ} 0 1 = cc in omega arith)
+quiet-acted h e (progress.Bad f) k = absurd (let z : _≡_ {A = ℕ} 0 1 = cc in omega arith)
 
 -- ---- bytes of an input
-module _ (station : ℕ) (role : Role) (board : plain.Plain) (lines : ℕ) (input : List ℕ) (i : ℕ) (e r : Gathered) (s : BlockReaderSound (e .block) (e .n)) (h : i < length input)
+module _ (h : PlainHost) (input : List ℕ) (i : ℕ) (e r : Gathered) (s : BlockReaderSound (e .block) (e .n)) (l : i < length input)
     (q : r ≡ readerByte e (getD input i 0)) where
   -- the byte at i, where there was no progress to act on
-  pub next-heard : isQuiet (e .progress) ≡ true
-      → heardBytes station role (acted station role board lines r) (drop (i + 1) input) ≡ heardBytes station role (acted station role board lines e) (drop i input)
+  pub next-heard : isQuiet (e .progress) ≡ true → heardBytes (acted h r) (drop (i + 1) input) ≡ heardBytes (acted h e) (drop i input)
   unfolding heardBytes
   next-heard k =
-      let d : drop i input ≡ getD input i 0 ∷ drop (i + 1) input = rw (add-one i) (drop-cons input i 0 h) in
-      let a = quiet-acted station role board lines e (e .progress) k in
-      rw (d, q, a) (ap (λ (l : Listener). heardBytes station role l (drop (i + 1) input)) (byte-heard station role board lines e (getD input i 0) s))
+      let d : drop i input ≡ getD input i 0 ∷ drop (i + 1) input = rw (add-one i) (drop-cons input i 0 l) in
+      let a = quiet-acted h e (e .progress) k in
+      rw (d, q, a) (ap (λ (m : Listener). heardBytes m (drop (i + 1) input)) (byte-heard h e (getD input i 0) s))
 
 -- progress comes behind the first byte
 pub read-on : (from i : ℕ) (t : Bool) → from ≤ i → (i ≡ from → t ≡ true) → t ≡ false → from < i
@@ -94,21 +94,52 @@ read-on from i t h k e =
     omega (arith, h, n)
 
 -- the last byte is in
-pub parts-end : (station : ℕ) (role : Role) (input : List ℕ) (i : ℕ) (l m : Listener) → i ≤ length input → length input ≤ i
-    → heardBytes station role l (drop i input) ≡ m → l ≡ m
+pub parts-end : (input : List ℕ) (i : ℕ) (l m : Listener) → i ≤ length input → length input ≤ i → heardBytes l (drop i input) ≡ m → l ≡ m
 unfolding heardBytes
-parts-end station role input i l m p q h =
+parts-end input i l m p q h =
     let e : i ≡ length input = omega arith in
     rw (e, drop-length input) at h
 
 -- ---- what the progress do
-pub acted-at : {p q : Progress} (station : ℕ) (role : Role) (board : plain.Plain) (lines : ℕ) (e : Gathered) {r : Listener} → p ≡ q
-    → r ≡ actedBy q station role board lines e → r ≡ actedBy p station role board lines e
-acted-at station role board lines e h k = rw h k
-
-pub view-same : (e : Gathered) {b c : plain.Plain} {j k : ℕ} → b ≡ c → j ≡ k → view e b j ≡ view e c k
-view-same e h k = rw (h, k) refl
+pub acted-at : {p q : Progress} (h : PlainHost) (e : Gathered) {r : Listener} → p ≡ q → r ≡ actedBy q h e → r ≡ actedBy p h e
+acted-at h e k g = rw k g
 
 pub byte-at : (e : Gathered) (b : ℕ) (s : Step) {r : Gathered} → s ≡ addByte (e .wav) b → r ≡ readerOut (s .out) e (s .state) → r ≡ readerByte e b
 unfolding readerByte
 byte-at e b s h g = g ∙ ap (λ (z : Step). readerOut (z .out) e (z .state)) h
+
+-- ---- part after part, and the end
+heard-append : (l : Listener) (bs cs : List ℕ) → heardBytes l (bs ++ cs) ≡ heardBytes (heardBytes l bs) cs
+unfolding heardBytes
+heard-append l [] cs = refl
+heard-append l (b ∷ bs) cs = heard-append (heardByte l b) bs cs
+
+pub heard-none : (s : Session) → SessionSound s → HeardSome (listening s) s
+unfolding heardBytes
+heard-none s k = record { bytes = []; same = refl; sound = k }
+
+pub heard-part : (l : Listener) (bs : List ℕ) (r : Session) → SessionSound r → listening r ≡ heardBytes l bs → HeardSome l r
+heard-part l bs r k e = record { bytes = bs; same = e; sound = k }
+
+pub heard-more : (l : Listener) (r u : Session) → HeardSome l r → HeardSome (listening r) u → HeardSome l u
+heard-more l r u h k =
+    record {
+      bytes = h .bytes ++ k .bytes;
+      same = k .same ∙ rw (h .same, heard-append l (h .bytes) (k .bytes)) refl;
+      sound = k .sound;
+    }
+
+pub begun : (s : Session) (w : Wav) (h : PlainHost) → s .reader .n ≡ 0 → s .reader .wav ≡ w → hostOf (s .host) ≡ h → listening s ≡ listener w [] h
+begun s w h n v e = rw (n, v, e) refl
+
+pub heard-from : {l m : Listener} {r : Session} → l ≡ m → HeardSome l r → HeardSome m r
+heard-from e k = rw e at k
+
+pub heard-all : (l : Listener) (s : Session) (r : Closed) → HeardSome l s → Hosts (ended (listening s)) (r .host) → r .end ≡ finishOf (s .reader .wav)
+    → HeardAll l r
+heard-all l s r h k e =
+    record {
+      bytes = h .bytes;
+      host = subst (λ (m : Listener). Hosts (ended m) (r .host)) (h .same) k;
+      end = e ∙ ap (λ (m : Listener). finishOf (m .wav)) (h .same);
+    }

@@ -1,4 +1,4 @@
 -- Laws that the proofs of the functions cite.
-pub mod SessionLaws
-pub mod Blocks
+pub mod HostLaws
+pub mod Hosting
 pub mod Hearing

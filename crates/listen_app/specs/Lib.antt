@@ -2,5 +2,7 @@
 pub mod Words
 pub mod BlockReader
 pub mod BlockReaderRep
+pub mod Host
+pub mod HostRep
 pub mod Listener
 pub mod Session

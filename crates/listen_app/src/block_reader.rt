@@ -42,7 +42,7 @@ struct Filling {
 
 impl BlockReader {
     pub fn new(wav: Wav) -> BlockReader
-        ensures { λ r. ⌜ r .n ≡ 0 ⌝ }
+        ensures { λ r. ⌜ (r .n ≡ 0) × (r .wav ≡ wav) ⌝ }
     {
         BlockReader {
             wav,

@@ -7,7 +7,7 @@ pub fn of_words(why: Unclear) {
         Unclear::Count => {
             io::write_all(
                 2,
-                b"listen: the words are STATION ROLE, and RATE where the input is raw floats\n",
+                b"listen: the words are STATION ROLE, RATE where the input is raw, and s16 where it is 16-bit\n",
             );
         }
         Unclear::Station => {
@@ -19,7 +19,19 @@ pub fn of_words(why: Unclear) {
         Unclear::Rate => {
             io::write_all(2, b"listen: RATE is a number from 8000 to 48000\n");
         }
+        Unclear::Format => {
+            io::write_all(2, b"listen: the word behind RATE is s16\n");
+        }
     }
+}
+
+// Standard input and output.
+pub fn of_input() {
+    io::write_all(2, b"listen: standard input cannot be read\n");
+}
+
+pub fn of_output() {
+    io::write_all(2, b"listen: standard output cannot be written\n");
 }
 
 // Why a recording is not read, or not to its end.
@@ -53,7 +65,10 @@ fn of_header(fault: Fault) {
             io::write_all(2, b"the format chunk is too short\n");
         }
         Fault::Encoding => {
-            io::write_all(2, b"neither PCM of 16 bits nor floats of 32 bits\n");
+            io::write_all(
+                2,
+                b"the encoding is not PCM of 8, 16, 24 or 32 bits, floats of 32 or 64, mu-law or A-law\n",
+            );
         }
         Fault::Channels => {
             io::write_all(2, b"no channel\n");

@@ -2,10 +2,12 @@
 //
 //   words          what the words of the command ask for   specs/Words.antt
 //   block_reader   samples of the recording, in blocks     specs/BlockReader.antt
-//   session        the board that hears the blocks         specs/Session.antt; what it hears of any bytes: specs/Listener.antt
+//   host           the board that hears the blocks         specs/Host.antt
+//   session        standard input, to its end              specs/Session.antt; what is heard of any bytes: specs/Listener.antt
 //   complain       a line on standard error
 mod block_reader;
 mod complain;
+mod host;
 mod session;
 mod words;
 
@@ -15,12 +17,19 @@ use words::Request;
 pub fn run() {
     let request = words::read();
     match request {
-        Request::Recording { station, role } => session::hear_recording(station, role),
+        Request::Recording { station, role } => {
+            session::close(session::hear_recording(station, role))
+        }
         Request::Floats {
             station,
             role,
             rate,
-        } => session::hear_floats(station, role, rate),
+        } => session::close(session::hear_floats(station, role, rate)),
+        Request::Pcm {
+            station,
+            role,
+            rate,
+        } => session::close(session::hear_pcm(station, role, rate)),
         Request::Unclear(why) => complain::of_words(why),
     }
 }

@@ -1,132 +1,52 @@
-// A board hears a recording, block by block.
+// A host hears a recording, from standard input.
 use crate::block_reader::BLOCK;
 use crate::block_reader::BlockReader;
 use crate::block_reader::Progress;
 use crate::block_reader::hear;
 use crate::complain;
+use crate::host::Host;
 use bell103::Role;
-use board::Answer;
-use board::Board;
-use console::one_more;
-use console::print_answer;
-use console::print_reading;
 use wav::End;
+use wav::Fault;
 use wav::Wav;
 ghost use mathlib.Core.Path.{_≡_};
-ghost use Prim.Native.Nat.{_+_, _≤_, min};
 ghost use lib.ListN.{length};
-ghost use Rattle.tide.specs.DecoderRep.{mostCount};
-ghost use Rattle.board.specs.Plain.{newOf};
-ghost use Rattle.board.specs.BoardRep.{plainOf, answerOf, BoardSound};
+ghost use Rattle.board.specs.BoardRep.{BoardSound};
 ghost use Rattle.listen_app.specs.BlockReader.{blockLength};
 ghost use Rattle.listen_app.specs.BlockReaderRep.{gathered};
-ghost use Rattle.listen_app.specs.Listener.{listenerOf, acted, heardBytes};
-ghost use Rattle.listen_app.specs.Session.{mostLines, endedIn, linesAfter, Wrote, SessionSound, listening};
+ghost use Rattle.listen_app.specs.Host.{freshHost};
+ghost use Rattle.listen_app.specs.HostRep.{hostOf, Hosts};
+ghost use Rattle.listen_app.specs.Listener.{listener, view, acted, heardBytes, ended, ofRecording, ofFloats, ofPcm};
+ghost use Rattle.listen_app.specs.Session.{SessionSound, listening, HeardSome, HeardAll, isCut, endOf, outcomeOf};
+ghost use mathlib.Core.List.{[]};
 
-// The most lines that a write can end.
-const MOST_LINES: usize = 103;
-
-// The board, and how many lines it has judged. The count holds at the most that it can say.
-pub struct NumberedBoard {
-    board: Board,
-    lines: u64,
-}
-
-// Each line's number and answer.
-fn tell_lines(lines: u64, verdicts: &[u8]) -> u64
-    ensures { λ r. ⌜ r ≡ min (lines + length (now (verdicts .entry))) mostCount ⌝ }
-{
-    let mut k = lines;
-    let mut i = 0;
-    while i < verdicts.len() {
-        k = one_more(k);
-        print_answer(k, verdicts[i]);
-        i += 1;
-    }
-    k
-}
-
-// The lines that a block ended, or why the block was refused.
-fn tell(lines: u64, answer: Answer, verdicts: &[u8]) -> u64
-    requires { ⌜ endedIn (answerOf answer) ≤ length (now verdicts) ⌝ }
-    ensures { λ r. ⌜ r ≡ linesAfter lines (answerOf answer) ⌝ }
-{
-    match answer {
-        Answer::Refused(why) => {
-            io::write_all(1, b"! ");
-            io::print_decimal(1, why.number() as u64);
-            io::write_all(1, b"\n");
-            lines
-        }
-        Answer::Heard(x) => {
-            let n = x.lines as usize;
-            tell_lines(lines, &verdicts[..n])
-        }
-    }
-}
-
-// Room for the answers of all lines that a write can end.
-fn no_verdicts() -> [u8; MOST_LINES]
-    ensures { λ r. ⌜ mostLines ≤ length r ⌝ }
-{
-    [0u8; MOST_LINES]
-}
-
-// The next block.
-fn write_block(s: NumberedBoard, samples: &[f32]) -> NumberedBoard
-    requires { ⌜ BoardSound (s .board) ⌝ }
-    ensures { λ r. ⌜ Wrote s (now (samples .entry)) r ⌝ }
-{
-    let board = s.board;
-    let mut verdicts = no_verdicts();
-    let w = board.write_into(samples, &mut verdicts);
-    let answer = w.answer;
-    let lines = tell(s.lines, answer, &verdicts);
-    let next = w.state;
-    NumberedBoard { board: next, lines }
-}
-
-fn fresh_numbered(rate: u32, station: u16, role: Role) -> NumberedBoard
-    ensures { λ r. ⌜ BoardSound (r .board) × (plainOf (r .board) ≡ newOf rate station role .state) × (r .lines ≡ 0) ⌝ }
-{
-    let made = Board::new(rate, station, role);
-    let board = made.state;
-    NumberedBoard { board, lines: 0 }
-}
-
-// The board that hears the recording, the reader of its bytes, and the block that its samples fill.
+// The host, the reader of the recording's bytes, and the block that its samples fill.
 struct Session {
-    numbered: NumberedBoard,
+    host: Host,
     reader: BlockReader,
     block: [f32; BLOCK],
 }
 
 // Acts on the reader's progress.
-fn act_on(
-    numbered: NumberedBoard,
-    reader: BlockReader,
-    block: &[f32],
-    station: u16,
-    role: Role,
-) -> NumberedBoard
-    requires { ⌜ BoardSound (numbered .board) ⌝ }
-    ensures { λ r. ⌜ BoardSound (r .board) × (listenerOf r (gathered reader (now (block .entry))) ≡ acted station role (plainOf (numbered .board)) (numbered .lines) (gathered reader (now (block .entry)))) ⌝ }
+fn act_on(host: Host, reader: BlockReader, block: &[f32]) -> Host
+    requires { ⌜ BoardSound (host .board) ⌝ }
+    ensures { λ r. ⌜ BoardSound (r .board) × (view (gathered reader (now (block .entry))) (hostOf r) ≡ acted (hostOf host) (gathered reader (now (block .entry)))) ⌝ }
 {
     let progress = reader.progress;
     match progress {
-        Progress::None => numbered,
-        Progress::Bad(_) => numbered,
-        Progress::Start(rate) => fresh_numbered(rate, station, role),
-        Progress::Block => write_block(numbered, block),
+        Progress::None => host,
+        Progress::Bad(_) => host,
+        Progress::Start(rate) => host.with_rate(rate),
+        Progress::Block => host.write_block(block),
     }
 }
 
 // A part of the recording.
-fn hear_part(s: Session, input: &[u8], station: u16, role: Role) -> Session
+fn hear_part(s: Session, input: &[u8]) -> Session
     requires { ⌜ SessionSound s ⌝ }
-    ensures { λ r. ⌜ SessionSound r × (listening r ≡ heardBytes station role (listening s) (now (input .entry))) ⌝ }
+    ensures { λ r. ⌜ SessionSound r × (listening r ≡ heardBytes (listening s) (now (input .entry))) ⌝ }
 {
-    let mut numbered = s.numbered;
+    let mut host = s.host;
     let mut reader = s.reader;
     let mut block = s.block;
     let mut at = 0;
@@ -134,80 +54,90 @@ fn hear_part(s: Session, input: &[u8], station: u16, role: Role) -> Session
         let h = hear(reader, &mut block, input, at);
         reader = h.reader;
         at = h.at;
-        numbered = act_on(numbered, reader, &block, station, role);
+        host = act_on(host, reader, &block);
     }
     Session {
-        numbered,
+        host,
         reader,
         block,
     }
 }
 
+// The session after a read, whether there is reason to read on, and whether the read failed.
 struct Turn {
     session: Session,
     more: bool,
+    failed: bool,
 }
 
 // One read of standard input.
-fn read_part(s: Session, station: u16, role: Role) -> Turn
+fn read_part(s: Session) -> Turn
     requires { ⌜ SessionSound s ⌝ }
-    ensures { λ r. ⌜ SessionSound (r .session) ⌝ }
+    ensures { λ r. ⌜ HeardSome (listening s) (r .session) ⌝ }
 {
     let mut part = io::buffer();
     let got = libc::read(0, &mut part);
+    if got < 0 {
+        return Turn {
+            session: s,
+            more: false,
+            failed: true,
+        };
+    }
     let n = io::count(got, &part);
     if n == 0 {
         return Turn {
             session: s,
             more: false,
+            failed: false,
         };
     }
-    let next = hear_part(s, &part[..n], station, role);
-    let reader = next.reader;
-    let more = is_well(reader);
+    let next = hear_part(s, &part[..n]);
+    let more = goes_on(next.reader, next.host.is_told());
     Turn {
         session: next,
         more,
+        failed: false,
     }
 }
 
-// Whether there is reason to read on.
-fn is_well(reader: BlockReader) -> bool {
+// Whether there is reason to read on: the recording is good so far, and what is heard can be told.
+fn goes_on(reader: BlockReader, told: bool) -> bool {
     let progress = reader.progress;
     match progress {
         Progress::Bad(_) => false,
-        _ => true,
+        _ => told,
     }
 }
 
 // All of standard input. A proved loop has to end, and nothing says that the input does: the loop counts its turns down, from a number
 // that no run uses up.
-fn read_all(s: Session, station: u16, role: Role) -> Session
+fn read_all(s: Session) -> Turn
     requires { ⌜ SessionSound s ⌝ }
-    ensures { λ r. ⌜ SessionSound r ⌝ }
+    ensures { λ r. ⌜ HeardSome (listening s) (r .session) ⌝ }
 {
     let mut r = Turn {
         session: s,
         more: true,
+        failed: false,
     };
     let mut turns = u64::MAX;
     while turns > 0 && r.more {
-        r = read_part(r.session, station, role);
+        r = read_part(r.session);
         turns -= 1;
     }
-    r.session
+    r
 }
 
-// The samples that fill no block; then the reading.
-fn close(s: Session, station: u16)
+// The samples that fill no block.
+fn hear_last(s: Session) -> Host
     requires { ⌜ SessionSound s ⌝ }
+    ensures { λ r. ⌜ Hosts (ended (listening s)) r ⌝ }
 {
-    let reader = s.reader;
-    let numbered = s.numbered;
+    let host = s.host;
     let block = s.block;
-    let n = reader.n;
-    let last = write_block(numbered, &block[..n]);
-    print_reading(station, last.board.reading());
+    let n = s.reader.n;
+    host.write_block(&block[..n])
 }
 
 fn no_samples() -> [f32; BLOCK]
@@ -216,29 +146,130 @@ fn no_samples() -> [f32; BLOCK]
     [0.0; BLOCK]
 }
 
-// Hears standard input to its end, from a reader's first state on. A recording that is not whole gives no reading.
-fn hear_all(wav: Wav, rate: u32, station: u16, role: Role) {
-    let numbered = fresh_numbered(rate, station, role);
-    let reader = BlockReader::new(wav);
+// The host that heard all that there is, how the recording ended, and whether a read failed.
+pub struct Closed {
+    host: Host,
+    end: End,
+    failed: bool,
+}
+
+// Hears standard input to its end, from a reader's first state on.
+fn hear_all(wav: Wav, rate: u32, station: u16, role: Role) -> Closed
+    ensures { λ r. ⌜ HeardAll (listener wav [] (freshHost rate station role)) r ⌝ }
+{
     let first = Session {
-        numbered,
-        reader,
+        host: Host::new(rate, station, role),
+        reader: BlockReader::new(wav),
         block: no_samples(),
     };
-    let s = read_all(first, station, role);
+    let r = read_all(first);
+    let s = r.session;
     let end = s.reader.wav.finish();
-    match end {
-        End::Whole => close(s, station),
-        End::Bad(fault) => complain::of_recording(fault),
+    let host = hear_last(s);
+    Closed {
+        host,
+        end,
+        failed: r.failed,
     }
 }
 
 // A recording with a header; its rate takes the place of the one given here.
-pub fn hear_recording(station: u16, role: Role) {
-    hear_all(Wav::new(), 8000, station, role);
+pub fn hear_recording(station: u16, role: Role) -> Closed
+    ensures { λ r. ⌜ HeardAll (ofRecording station role) r ⌝ }
+{
+    hear_all(Wav::new(), 8000, station, role)
 }
 
 // Floats with no header.
-pub fn hear_floats(station: u16, role: Role, rate: u32) {
-    hear_all(Wav::raw(), rate, station, role);
+pub fn hear_floats(station: u16, role: Role, rate: u32) -> Closed
+    ensures { λ r. ⌜ HeardAll (ofFloats station role rate) r ⌝ }
+{
+    hear_all(Wav::raw(), rate, station, role)
+}
+
+// 16-bit numbers with no header.
+pub fn hear_pcm(station: u16, role: Role, rate: u32) -> Closed
+    ensures { λ r. ⌜ HeardAll (ofPcm station role rate) r ⌝ }
+{
+    hear_all(Wav::raw_16(), rate, station, role)
+}
+
+// What is to be said at the end.
+pub enum Outcome {
+    // Something could not be written, or not be read.
+    Unwritten,
+    Unread,
+    // The recording is not one that is read.
+    NoReading(Fault),
+    // It has fewer samples than it should; those that it has were heard.
+    Cut(Fault),
+    Whole,
+}
+
+fn is_cut(fault: Fault) -> bool
+    ensures { λ r. ⌜ r ≡ isCut fault ⌝ }
+{
+    match fault {
+        Fault::FrameCut => true,
+        Fault::DataCut => true,
+        Fault::Riff => false,
+        Fault::Wave => false,
+        Fault::FormatSize => false,
+        Fault::Encoding => false,
+        Fault::Channels => false,
+        Fault::Rate => false,
+        Fault::Align => false,
+        Fault::NoFormat => false,
+        Fault::Ragged => false,
+        Fault::HeaderCut => false,
+    }
+}
+
+fn end_of(end: End) -> Outcome
+    ensures { λ r. ⌜ r ≡ endOf end ⌝ }
+{
+    match end {
+        End::Whole => Outcome::Whole,
+        End::Bad(fault) => {
+            if is_cut(fault) {
+                return Outcome::Cut(fault);
+            }
+            Outcome::NoReading(fault)
+        }
+    }
+}
+
+fn outcome_of(told: bool, failed: bool, end: End) -> Outcome
+    ensures { λ r. ⌜ r ≡ outcomeOf told failed end ⌝ }
+{
+    if told {
+        if failed {
+            return Outcome::Unread;
+        }
+        return end_of(end);
+    }
+    Outcome::Unwritten
+}
+
+// The last lines: what went wrong, on standard error, and the reading.
+pub fn close(c: Closed) {
+    let host = c.host;
+    let end = c.end;
+    let o = outcome_of(host.is_told(), c.failed, end);
+    match o {
+        Outcome::Unwritten => complain::of_output(),
+        Outcome::Unread => complain::of_input(),
+        Outcome::NoReading(fault) => complain::of_recording(fault),
+        Outcome::Cut(fault) => {
+            complain::of_recording(fault);
+            tell_reading(host);
+        }
+        Outcome::Whole => tell_reading(host),
+    }
+}
+
+fn tell_reading(host: Host) {
+    if !host.tell_reading() {
+        complain::of_output();
+    }
 }

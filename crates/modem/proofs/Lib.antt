@@ -6,3 +6,4 @@ pub mod Receiving
 pub mod QueueLaws
 pub mod RxLaws
 pub mod RxCalls
+pub mod ErrorLaws

@@ -1,6 +1,6 @@
 -- A call's samples through the resampler. Assumes nothing.
 use Prim.Native.Nat.{ℕ, _+_, _-_, _≤_}
-use mathlib.Core.Path.{_≡_, sym, ap, subst, _∙_}
+use mathlib.Core.Path.{_≡_, refl, sym, ap, subst, _∙_}
 use mathlib.Core.Bool.{true}
 use mathlib.Core.List.{List, _++_, append-assoc}
 use native.Mathlib.Omega.{arith}
@@ -15,12 +15,17 @@ use Rattle.resampling.specs.Resample.{State, equalRates, outcome, Outcome, lenO
 use Rattle.resampling.proofs.ResampleLaws.{equal-rates, ran-few, output-few}
 use Rattle.resampling.specs.ResampleRep.{stateOf, Sound}
 use Rattle.modem.specs.Hear.{resampled, Resamples}
+use Rattle.modem.specs.Listener.{heardBy}
+use Rattle.modem.specs.ListenerRep.{demodOf, Fitting, Takes}
+use Rattle.modem.specs.declared.listener.Listener.{Listener}
 use Rattle.refusal.specs.declared.Counted.{Counted}
 use Rattle.happenings.specs.Codes.{mostSteps}
+use Rattle.demodulation.specs.Demod as defined
 use Rattle.demodulation.specs.Listening.{HearsInto}
 use Rattle.demodulation.specs.declared.demod.Demodulator.{Demodulator}
 use Rattle.demodulation.specs.declared.hearing.HeardAll.{HeardAll}
 use Rattle.resampling.specs.declared.resample.Resampler.{Resampler}
+use Rattle.modem.proofs.ErrorLaws.{errors-on}
 
 -- the room that a call of n samples asks for
 pub room-is : (s : State) (n : ℕ) (c : Counted) → n ≤ 2048 → countOf c ≡ lenOf s n → countIn c ≡ maxOutputLen (s .src) (s .dst) n
@@ -92,3 +97,30 @@ all-heard d xs ys codes r codes′ e l h = subst (λ (zs : List Float). HearsInt
 pub plain : (r : Resampler) (xs : List Float) → equalRates (stateOf r) ≡ true → resampled (stateOf r) xs ≡ ran xs (stateOf r .flow)
 unfolding resampled stateOf
 plain r xs e = equal-rates (stateOf r) xs e
+
+-- so a listener at equal rates has taken them once its demodulator heard them
+abbrev pub plainly : Listener → ℕ → Demodulator → Listener
+plainly l n d = record { resampler = l .resampler; demod = d; accepted = l .accepted + n }
+
+pub plain-takes : (l : Listener) (xs : List Float) (before codes : List ℕ) (h : HeardAll) → Fitting l xs before → equalRates (stateOf (l .resampler)) ≡ true
+    → HearsInto (l .demod) xs before h codes → Takes l xs before (plainly l (length xs) (h .state)) (h .count) codes
+unfolding demodOf heardBy stateOf
+plain-takes l xs before codes h fit same i =
+    let e = plain (l .resampler) xs same in
+    record {
+      demod = rw (e, i .after);
+      heard = rw e (i .heard);
+      count = rw e (i .count);
+      few = i .few;
+      rest = i .rest;
+      places = i .places;
+      accepted = refl;
+      sound =
+          record {
+            resampler = fit .sound .resampler;
+            to-8000 = fit .sound .to-8000;
+            demod = i .sound;
+            count = fit .end;
+            errors = errors-on _ _ _ _ _ (fit .sound .errors) (ap (λ (x : defined.Demodulator). x .deframer) (i .after)) (omega arith);
+          };
+    }

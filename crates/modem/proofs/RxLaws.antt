@@ -23,7 +23,7 @@ use Rattle.happenings.specs.Happening.{bytesIn}
 use Rattle.happenings.proofs.HappeningLaws.{bytes-append}
 
 -- ---- n samples make n + 2 steps at most, and none make none
-steps-few : (d : Demod) (xs : List Float) → Listens d → length (resampled (d .resampler) xs .out) ≤ 3 * length xs
+pub steps-few : (d : Demod) (xs : List Float) → Listens d → length (resampled (d .resampler) xs .out) ≤ 3 * length xs
 unfolding resampled
 steps-few d [] l = rw (ran-none (d .resampler) (resample.maxOutputLen (d .resampler .src) (d .resampler .dst) 0)) (omega arith)
 steps-few d (x ∷ xs) l =

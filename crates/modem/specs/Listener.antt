@@ -10,7 +10,7 @@ use lib.Ieee.{Float}
 use Rattle.numeric.specs.If.{if_then_else_}
 use Rattle.refusal.specs.Refusals.{dspRate, first, rateRefused}
 use Rattle.resampling.specs.Resample as resample
-use Rattle.demodulation.specs.Demod.{Demodulator, hearing, freshDemodulator, Tuned}
+use Rattle.demodulation.specs.Demod.{Demodulator, hearing, freshDemodulator, Tuned, badStopsIn}
 use Rattle.happenings.specs.declared.happening.Happening.{Happening}
 use Rattle.modem.specs.Samples.{allInRange}
 use Rattle.modem.specs.Hear.{resampled}
@@ -72,3 +72,11 @@ heardOver d (xs ∷ xss) =
 abbrev pub samplesIn : List (List Float) → ℕ
 samplesIn [] = 0
 samplesIn (xs ∷ xss) = length xs + samplesIn xss
+
+-- the spaces in stop position among the bits that these samples are sliced to, and those of a list of accepted writes
+unfoldable pub badStopsBy : Demod → List Float → ℕ
+badStopsBy d xs = badStopsIn (d .inner) (resampled (d .resampler) xs .out)
+
+unfoldable pub badStopsOver : Demod → List (List Float) → ℕ
+badStopsOver d [] = 0
+badStopsOver d (xs ∷ xss) = badStopsBy d xs + badStopsOver (heardBy d xs .after) xss

@@ -1,10 +1,12 @@
 -- How the code's `Listener` holds what specs/Listener.antt speaks of, the invariant of its states, and what its calls do. Assumes nothing.
-use Prim.Native.Nat.{ℕ, _+_, _≤_}
+use Prim.Native.Nat.{ℕ, _+_, _*_, _≤_}
 use mathlib.Core.Path.{_≡_}
 use mathlib.Core.List.{List}
 use lib.ListN.{length, drop}
 use lib.Ieee.{Float}
 use Rattle.refusal.specs.Refusals.{acceptanceOf, first, replyOf, rateRefused}
+use Rattle.framing.specs.Framing.{held}
+use Rattle.framing.specs.declared.frame.Deframer.{Deframer}
 use Rattle.happenings.specs.Codes.{mostCodes, Codes, heardIn}
 use Rattle.resampling.specs.ResampleRep.{stateOf, Sound}
 use Rattle.demodulation.specs.DemodRep.{demodulatorOf, DemodSound}
@@ -20,12 +22,18 @@ use Rattle.modem.specs.declared.listener.Listened.{Listened}
 unfoldable pub demodOf : Listener → plain.Demod
 demodOf l = plain.demod (stateOf (l .resampler)) (demodulatorOf (l .demod))
 
+-- ten for each error counted, and the bits of a byte begun, are at most three for each sample accepted: a bad stop takes ten bits, and a sample
+-- makes three steps at the most. So the count never comes to 4,294,967,295, where it would hold
+unfoldable pub FewErrors : Deframer → ℕ → Type 0
+FewErrors d accepted = 10 * d .errors + held d ≤ 3 * accepted
+
 -- a state that `new` or a later call gave
 pub record ListenerSound (l : Listener) : Type 0 where
   pub resampler : Sound (l .resampler)
   pub to-8000 : l .resampler .«dst_rate» ≡ 8000
   pub demod : DemodSound (l .demod)
   pub count : l .accepted ≤ 4294967296
+  pub errors : FewErrors (l .demod .core .deframer) (l .accepted)
 
 -- ---- what the calls do
 -- a fresh one on an admitted rate

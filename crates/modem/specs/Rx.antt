@@ -1,11 +1,13 @@
 -- The receiver (rx.rs): what hears; two queues; and the number of samples accepted. Assumes nothing.
-use Prim.Native.Nat.{ℕ, zero, suc, _+_}
+use Prim.Native.Nat.{ℕ, zero, suc, _+_, _<_}
+use mathlib.Core.Path.{_≡_}
 use mathlib.Core.Bool.{Bool}
-use mathlib.Core.List.{List, [], _++_}
+use mathlib.Core.List.{List, [], _∷_, _++_}
 use lib.ListN.{length, take, drop}
 use lib.Ieee.{Float}
 use Rattle.numeric.specs.If.{if_then_else_}
 use Rattle.refusal.specs.Refusals.{dspRate, Reply, given, refused, replyOf, rateRefused}
+use Rattle.framing.specs.Frame.{mostErrors}
 use Rattle.demodulation.specs.Demod.{reported}
 use Rattle.modem.specs.Write.{refusedBy}
 use Rattle.modem.specs.Listener.{Demod, heardBy, freshDemod}
@@ -95,3 +97,38 @@ carrierOf r = reported (r .demod .inner)
 
 abbrev pub errorsOf : Receiver → ℕ
 errorsOf r = r .demod .inner .deframer .errors
+
+-- ---- a list of calls, each on the receiver that the one before it left
+pub data Call : Type 0 where
+  write : List Float → Call
+  read : List ℕ → Call
+  events : Call
+
+abbrev pub afterCall : Receiver → Call → Receiver
+afterCall r (write xs) = written r xs .state
+afterCall r (read buf) = readOf r buf .state
+afterCall r events = eventOf r .state
+
+unfoldable pub afterCalls : Receiver → List Call → Receiver
+afterCalls r [] = r
+afterCalls r (c ∷ cs) = afterCalls (afterCall r c) cs
+
+-- the samples of a write, unless it is refused
+abbrev pub takenUnless : ℕ → List Float → List (List Float)
+takenUnless zero xs = xs ∷ []
+takenUnless (suc k) xs = []
+
+abbrev pub takenAt : Receiver → Call → List (List Float)
+takenAt r (write xs) = takenUnless (refusalOf r xs) xs
+takenAt r (read buf) = []
+takenAt r events = []
+
+-- the writes among these calls that are accepted, in order
+unfoldable pub takenIn : Receiver → List Call → List (List Float)
+takenIn r [] = []
+takenIn r (c ∷ cs) = takenAt r c ++ takenIn (afterCall r c) cs
+
+-- "The error count holds at 4,294,967,295, which no receiver reaches": so it is the number of bad stops
+pub record CountsAll (bad errors : ℕ) : Type 0 where
+  pub all : errors ≡ bad
+  pub below : errors < mostErrors

@@ -29,8 +29,8 @@ pub struct Listener {
 
 // What `new` answers, and the state; refused, it gives the one at 8,000.
 pub struct Opened {
-    pub answer: Acceptance,
     pub state: Listener,
+    pub answer: Acceptance,
 }
 
 // The state after samples that no check refuses, and how much happened.
@@ -41,8 +41,8 @@ pub struct Took {
 
 // What `hear` answers, the state, and how much happened.
 pub struct Listened {
-    pub answer: Acceptance,
     pub state: Listener,
+    pub answer: Acceptance,
     pub count: usize,
 }
 

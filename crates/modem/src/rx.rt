@@ -1,4 +1,5 @@
 // The bare receiver: device samples in, bytes and carrier events out, as the Rust's.
+use crate::hear::hear_plain;
 use crate::listener::Listener;
 use crate::listener::accept;
 use crate::queue::Bytes;
@@ -14,9 +15,11 @@ use refusal::Acceptance;
 use refusal::is_accepted;
 use resampling::Resampler;
 ghost use mathlib.Core.Path.{_≡_};
+ghost use mathlib.Core.Bool.{true};
 ghost use Prim.Native.Nat.{_≤_};
 ghost use lib.ListN.{length};
 ghost use Rattle.refusal.specs.Refusals.{acceptanceOf};
+ghost use Rattle.resampling.specs.Resample.{equalRates};
 ghost use Rattle.resampling.specs.ResampleRep.{stateOf, Sound};
 ghost use Rattle.demodulation.specs.Demod.{eventsOf};
 ghost use Rattle.demodulation.specs.DemodRep.{demodulatorOf, DemodSound};
@@ -34,26 +37,26 @@ pub struct Rx {
 
 // What `new` answers, and the state; refused, it gives the one at 8,000.
 pub struct Created {
-    pub answer: Acceptance,
     pub state: Rx,
+    pub answer: Acceptance,
 }
 
 // What `write` answers, and the state.
 pub struct Written {
-    pub answer: Acceptance,
     pub state: Rx,
+    pub answer: Acceptance,
 }
 
 // How many bytes were read, and the state.
 pub struct ReadBytes {
-    pub count: usize,
     pub state: Rx,
+    pub count: usize,
 }
 
 // The oldest event, and the state.
 pub struct TakenEvent {
-    pub event: Event,
     pub state: Rx,
+    pub event: Event,
 }
 
 fn no_codes() -> [u16; 2052]
@@ -62,8 +65,33 @@ fn no_codes() -> [u16; 2052]
     [0u16; 2052]
 }
 
-// The state after a write that no check refused: the bytes and the changes of what was heard go into the queues.
-fn accept_all(mut rx: Rx, samples: &[f32]) -> Rx
+// At 8,000 Hz. The listener is changed where it stands, since a copy of it takes long.
+fn accept_equal(mut rx: Rx, samples: &[f32]) -> Rx
+    requires { ⌜ RxSound rx × (refusedBy (now samples) (rx .listener .accepted) (rx .out .count) ≡ 0) × (equalRates (stateOf (rx .listener .resampler)) ≡ true) ⌝ }
+    ensures { λ r. ⌜ (receiverOf r ≡ acceptedBy (receiverOf rx) (now (samples .entry))) × RxSound r ⌝ }
+{
+    let mut listener = rx.listener;
+    let demod0 = listener.demod;
+    let bytes = rx.out;
+    let events = rx.events;
+    let mut codes = no_codes();
+    let h = hear_plain(demod0, samples, &mut codes);
+    let demod = h.state;
+    let count = h.count;
+    let waiting = Queues { bytes, events };
+    let q = take_in(waiting, &codes[..count]);
+    let out = q.bytes;
+    let logged = q.events;
+    listener.demod = demod;
+    listener.accepted += samples.len() as u64;
+    rx.listener = listener;
+    rx.out = out;
+    rx.events = logged;
+    rx
+}
+
+// At another rate.
+fn accept_other(mut rx: Rx, samples: &[f32]) -> Rx
     requires { ⌜ RxSound rx × (refusedBy (now samples) (rx .listener .accepted) (rx .out .count) ≡ 0) ⌝ }
     ensures { λ r. ⌜ (receiverOf r ≡ acceptedBy (receiverOf rx) (now (samples .entry))) × RxSound r ⌝ }
 {
@@ -82,6 +110,18 @@ fn accept_all(mut rx: Rx, samples: &[f32]) -> Rx
     rx.out = out;
     rx.events = logged;
     rx
+}
+
+// The state after a write that no check refused: the bytes and the changes of what was heard go into the queues.
+fn accept_all(rx: Rx, samples: &[f32]) -> Rx
+    requires { ⌜ RxSound rx × (refusedBy (now samples) (rx .listener .accepted) (rx .out .count) ≡ 0) ⌝ }
+    ensures { λ r. ⌜ (receiverOf r ≡ acceptedBy (receiverOf rx) (now (samples .entry))) × RxSound r ⌝ }
+{
+    let resampler = rx.listener.resampler;
+    if resampler.is_identity() {
+        return accept_equal(rx, samples);
+    }
+    accept_other(rx, samples)
 }
 
 impl Rx {

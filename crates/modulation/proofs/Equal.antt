@@ -39,7 +39,7 @@ module _ (t : TonePair) (k : Keyer) (s : State) (a : Float) (r : ℕ) (src : s .
       ∙ equal-rates s xs same
       ∙ ap (λ (n : ℕ). ran (generated n t k .samples) (s .flow)) (need-equal r)
 
-  pass-equal : pass m r
+  pub pass-equal : pass m r
       ≡ passed (take r (map (scaled a) (generated (r + 1) t k .samples))) (modulator 8000 t (generated (r + 1) t k .after) s (drop r (map (scaled a) (generated (r + 1) t k .samples))) a)
   unfolding pass handed batch
   pass-equal =

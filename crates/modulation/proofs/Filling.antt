@@ -59,7 +59,7 @@ so-start r t k q a p out from upto l c h =
     let d : pendingIn p (from + c) upto ≡ drop l W = sym (pending-left p from upto c) ∙ sym (drop-least l c W (h .count-is)) in
     rw (z, n, d, h .samples)
 
-none-left : (n : ℕ) (m : Modulator) → passes n m 0 ≡ filling [] m 0
+pub none-left : (n : ℕ) (m : Modulator) → passes n m 0 ≡ filling [] m 0
 unfolding passes
 none-left zero m = refl
 none-left (suc n) m = refl
@@ -95,7 +95,7 @@ module _ (out rest tail : List Float) (l written n count : ℕ) (m m′ : Modula
       rw (front, a, b, one-more left r m (omega arith) (omega arith), ey, es, ec, append-assoc, add-assoc)
 
 -- ---- how far the resampler gets
-fed-weaker : {i j g h : ℕ} {s : State} → i ≤ j → h ≤ g → Fed j h s → Fed i g s
+pub fed-weaker : {i j g h : ℕ} {s : State} → i ≤ j → h ≤ g → Fed j h s → Fed i g s
 fed-weaker a b u = record { count = u .count; reached = u .reached; at-least = le-trans a (u .at-least); at-most = le-trans (u .at-most) b }
 
 pub fed-start : {h : ℕ} {s : State} (written : ℕ) → Fed 0 h s → Fed (1 - (written + 1)) (h + 1025 * (1 - 1)) s
@@ -105,9 +105,9 @@ pub fed-end : (h l n : ℕ) (s : State) (j : ℕ) → n ≤ 2 * l + 1 → Fed j 
 fed-end h l n s j e u = fed-weaker (omega arith) (omega arith) u
 
 -- what a pass brings: a sample went into the resampler, and where one went in before, a sample is handed over
-record Brings (j most : ℕ) (s : State) (count : ℕ) : Type 0 where
-  fed-on : Fed (j + 1) most s
-  some : 1 ≤ j → 1 ≤ count
+pub record Brings (j most : ℕ) (s : State) (count : ℕ) : Type 0 where
+  pub fed-on : Fed (j + 1) most s
+  pub some : 1 ≤ j → 1 ≤ count
 
 module _ (rate : ℕ) (low : 8000 < rate) (high : rate ≤ highestRate) (j most r : ℕ) (R : 1 ≤ r) (R′ : r ≤ 1024) (few : most + 1025 < 2 ^ 51) where
   short : AtMost (filterOf 8000 rate .step) 1 (2 ^ 0)
@@ -134,7 +134,7 @@ module _ (rate : ℕ) (low : 8000 < rate) (high : rate ≤ highestRate) (j most 
     unfolding ranOver
     made-is = rw (src, dst, ne-eqb 8000 rate (λ e. omega arith))
 
-    brings : Brings j (most + 1025) (pass m r .after .resampler) (length (pass m r .samples))
+    pub brings : Brings j (most + 1025) (pass m r .after .resampler) (length (pass m r .samples))
     unfolding pass handed batch
     brings =
         let k = need r rate in

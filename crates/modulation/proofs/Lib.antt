@@ -10,4 +10,6 @@ pub mod Filling
 pub mod Equal
 pub mod Calls
 pub mod TxLaws
+pub mod PassLaws
 pub mod RequestLaws
+pub mod NumberLaws

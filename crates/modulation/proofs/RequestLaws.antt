@@ -4,7 +4,7 @@ use mathlib.Core.Path.{_≡_, refl, sym, ap, _∙_}
 use mathlib.Core.Bool.{Bool, true, false}
 use mathlib.Core.List.{List, [], _∷_, _++_, append-assoc, append-nil}
 use Rattle.numeric.specs.If.{if_then_else_}
-use Rattle.framing.specs.Frame.{mark, Idle, pushBit, bytesOf, heard, after}
+use Rattle.framing.specs.Frame.{mark, Idle, pushBit, heard, after}
 use Rattle.framing.specs.Framing.{AreBytes, HeardAs}
 use Rattle.framing.proofs.FramingLaws.{heard-append, after-append, marks-heard, frames-heard}
 use Rattle.framing.specs.declared.frame.Deframer.{Deframer}
@@ -29,9 +29,9 @@ more d e xs ys bs cs x y =
     }
 
 -- a bit in front
-before : (d : Deframer) (e : ℕ) (b : Bool) (bits : List Bool) (bytes : List ℕ) → Ends (pushBit d b .state) bits bytes e → Ends d (b ∷ bits) (bytesOf (pushBit d b .heard) ++ bytes) e
+before : (d : Deframer) (e : ℕ) (b : Bool) (bits : List Bool) (bytes : List ℕ) → Ends (pushBit d b .state) bits bytes e → Ends d (b ∷ bits) (pushBit d b .bytes ++ bytes) e
 unfolding heard after
-before d e b bits bytes x = record { same = ap (λ (l : List ℕ). bytesOf (pushBit d b .heard) ++ l) (x .same); errors = x .errors; idle = x .idle }
+before d e b bits bytes x = record { same = ap (λ (l : List ℕ). pushBit d b .bytes ++ l) (x .same); errors = x .errors; idle = x .idle }
 
 -- and without it
 behind : (d : Deframer) (e : ℕ) (b : Bool) (bits : List Bool) (bytes : List ℕ) → Ends d (b ∷ bits) bytes e → Ends (pushBit d b .state) bits (heard (pushBit d b .state) bits) e
@@ -47,9 +47,9 @@ asked-ends d e q bs r x h = go (isRefused q r)
     go false = more d e q (bitsOf r) bs (bytesIn r) x (request-heard (after d q) (x .idle) r h)
 
 -- the idle mark that is sent where no bit waits
-idle-none : (d : Deframer) → Idle d → bytesOf (pushBit d mark .heard) ≡ []
+idle-none : (d : Deframer) → Idle d → pushBit d mark .bytes ≡ []
 unfolding heard
-idle-none d p = sym (append-nil (bytesOf (pushBit d mark .heard))) ∙ marks-heard d p 1 .same
+idle-none d p = sym (append-nil (pushBit d mark .bytes)) ∙ marks-heard d p 1 .same
 
 idle-ends : (d : Deframer) (e : ℕ) (bs : List ℕ) → Ends d [] bs e → Ends (pushBit d mark .state) [] [] e
 unfolding heard after
@@ -64,7 +64,7 @@ all-heard d e q bs x (ask r ∷ ts) h =
 all-heard d e [] bs x (symbol ∷ ts) h =
     rw (sym (x .same)) (rw (idle-none d (x .idle)) at (before d e mark _ _ (all-heard (pushBit d mark .state) e [] [] (idle-ends d e bs x) ts h)))
 all-heard d e (b ∷ q) bs x (symbol ∷ ts) h =
-    rw (sym (x .same)) (rw (append-assoc (bytesOf (pushBit d b .heard)) _ _) (before d e b _ _ (all-heard (pushBit d b .state) e q _ (behind d e b q bs x) ts h)))
+    rw (sym (x .same)) (rw (append-assoc (pushBit d b .bytes) _ _) (before d e b _ _ (all-heard (pushBit d b .state) e q _ (behind d e b q bs x) ts h)))
 
 -- "What is sent is heard": from an empty queue and an idle deframer on, whatever is asked and refused in between, the symbols sent and the bits that still
 -- wait are heard as the bytes of the accepted writes, in order and without error, and leave the deframer idle

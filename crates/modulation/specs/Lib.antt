@@ -8,3 +8,4 @@ pub mod Tx
 pub mod TxRep
 pub mod Queueing
 pub mod Nco
+pub mod Numbers

@@ -32,7 +32,7 @@ unfoldable pub requested : Sender → Request → Queueing
 requested s r =
     if isRefused (s .modulator .keyer .bits) r then queueing (refused 33) s else queueing (given tt) (senderWith s (bitsOf r))
 
--- so the bits that wait change as `asked` says, and what bitqueue's `both-ends` says of them holds for the sender
+-- so the bits that wait change as `asked` says, and what `both-ends` (proofs/RequestLaws.antt) says of them holds for the sender
 pub requested-asks : (s : Sender) (r : Request) → requested s r .state .modulator .keyer .bits ≡ asked (s .modulator .keyer .bits) r
 unfolding requested
 requested-asks s r = go (isRefused (s .modulator .keyer .bits) r)

@@ -38,11 +38,15 @@ passes (suc n) m (suc r) =
     let p = pass m (suc r) in
     passThen p (passes n (p .after) (suc r - length (p .samples)))
 
--- a slice of n places: first what is pending, which is a pass too, then batches. "passes ≤ length + 2"
-unfoldable pub filled : Modulator → ℕ → Filling
-filled m n =
+-- a slice of n places: first what is pending, which is a pass too, then batches, `most` of them at most
+abbrev pub filledBy : ℕ → Modulator → ℕ → Filling
+filledBy most m n =
     let p = handed m n in
-    passThen p (passes (n + 1) (p .after) (n - length (p .samples)))
+    passThen p (passes most (p .after) (n - length (p .samples)))
+
+-- "passes ≤ length + 2"
+unfoldable pub filled : Modulator → ℕ → Filling
+filled m n = filledBy (n + 1) m n
 
 -- ---- the sender: what sounds, and the number of samples that it gave
 pub record Sender : Type 0 where

@@ -4,11 +4,13 @@
 //   bits       the bits that wait                            specs/Bits.antt, Requests.antt
 //   nco        the oscillator                                specs/Nco.antt
 //   modulate   one pass over the unwritten rest of a slice   specs/Tone.antt, Modulator.antt, ModulatorRep.antt
+//   numbers    what waits, as it is shown                    specs/Numbers.antt
 //   tx         the sender                                    specs/Tx.antt, TxRep.antt
 //   queueing   what a caller queues                          specs/Queueing.antt
 mod bits;
 mod modulate;
 mod nco;
+mod numbers;
 mod queueing;
 mod tx;
 

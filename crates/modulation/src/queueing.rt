@@ -13,8 +13,8 @@ ghost use Rattle.modulation.specs.Queueing.{queueing, writeOf, idleMarkO
 
 // The answer, and the sender after it.
 pub struct Queueing {
-    pub answer: Acceptance,
     pub state: Tx,
+    pub answer: Acceptance,
 }
 
 impl Tx {

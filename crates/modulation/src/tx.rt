@@ -6,10 +6,14 @@ use crate::modulate::equal_pass;
 use crate::modulate::hand_over;
 use crate::modulate::pass;
 use crate::nco::Nco;
+use crate::numbers::bit_places;
+use crate::numbers::mark_number;
+use crate::numbers::sample_places;
 use bell103::BAUD;
 use bell103::Role;
 use bell103::TonePair;
 use bell103::tones;
+use numeric::convert::widen;
 use numeric::counts::nearest;
 use refusal::Acceptance;
 use refusal::Counted;
@@ -23,8 +27,10 @@ ghost use mathlib.Core.Bool.{not, false};
 ghost use Prim.Native.Nat.{_+_, _*_, _≤_, _<_};
 ghost use lib.ListN.{length};
 ghost use Rattle.refusal.specs.Refusals.{acceptanceOf, countOf, replyOf, dspRate, rateRefused};
+ghost use Rattle.resampling.specs.ResampleRep.{stateOf, Sound};
 ghost use Rattle.modulation.specs.Bits.{BitsHeld};
 ghost use Rattle.modulation.specs.ModulatorRep.{PendingHeld};
+ghost use Rattle.modulation.specs.Numbers.{keyingNumbers, bitNumbers, pendingNumbers};
 ghost use Rattle.modulation.specs.Tx.{freshSender, made, newOf, readRefused, reading, readOf, adjusted, amplitudeRefused, amplitudeOf, pendingOf, durationOf};
 ghost use Rattle.modulation.specs.TxRep.{senderOf, TxSound, FillsWhole, FillsBy, after};
 
@@ -48,9 +54,9 @@ pub struct Tx {
 
 // What `read` answers, in how many passes, and the state.
 pub struct Reading {
+    pub state: Tx,
     pub answer: Acceptance,
     pub passes: usize,
-    pub state: Tx,
 }
 
 // What a slice at 8,000 moves of the sender, and in how many passes it was filled.
@@ -196,14 +202,14 @@ fn fill_rising(t: Tx, out: &mut [f32]) -> Reading
 
 // What `new` answers, and the state; refused, it gives the one at 8,000.
 pub struct Created {
-    pub answer: Acceptance,
     pub state: Tx,
+    pub answer: Acceptance,
 }
 
 // What `set_amplitude` answers, and the state.
 pub struct Adjusted {
-    pub answer: Acceptance,
     pub state: Tx,
+    pub answer: Acceptance,
 }
 
 fn falses() -> [bool; 4096]
@@ -347,5 +353,55 @@ impl Tx {
             return Counted::Refused(Refusal::TooManyBits);
         }
         Counted::Count(nearest((n as u64) * (self.rate as u64), BAUD as u64) as usize)
+    }
+
+    // What its samples go through.
+    pub fn resampler(self) -> Resampler
+        requires { ⌜ TxSound self ⌝ }
+        ensures { λ r. ⌜ (stateOf r ≡ senderOf self .modulator .resampler) × Sound r ⌝ }
+    {
+        let resampler = self.resampler;
+        resampler
+    }
+
+    // The oscillator and the symbol clock, the amplitude, the samples given, and how many bits and samples wait.
+    pub fn keying_numbers(self) -> [f64; 8]
+        requires { ⌜ TxSound self ⌝ }
+        ensures { λ r. ⌜ r ≡ keyingNumbers (senderOf self) ⌝ }
+    {
+        let w = self.wave;
+        let nco = w.nco;
+        let current = mark_number(w.current);
+        let amplitude = widen(self.amplitude);
+        let pending = self.upto - self.from;
+        [
+            nco.phase,
+            nco.inc,
+            w.sym_pos,
+            current,
+            amplitude,
+            self.served as f64,
+            w.waiting as f64,
+            pending as f64,
+        ]
+    }
+
+    // The bits that wait, oldest first.
+    pub fn bit_numbers(self) -> [f64; 4096]
+        requires { ⌜ TxSound self ⌝ }
+        ensures { λ r. ⌜ r ≡ bitNumbers (senderOf self) ⌝ }
+    {
+        let bits = self.bits;
+        let w = self.wave;
+        bit_places(&bits, w.head, w.waiting)
+    }
+
+    // The samples that were made and not yet read, oldest first.
+    pub fn pending_numbers(self) -> [f64; 64]
+        requires { ⌜ TxSound self ⌝ }
+        ensures { λ r. ⌜ r ≡ pendingNumbers (senderOf self) ⌝ }
+    {
+        let pending = self.pending;
+        sample_places(&pending, self.from, self.upto)
     }
 }

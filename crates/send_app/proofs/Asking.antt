@@ -1,7 +1,7 @@
 -- What the sender is asked for, from what its calls ensure. Assumes nothing.
 use Prim.Native.Nat.{ℕ, _+_, _-_, _≤_, _<_, min}
 use mathlib.Core.Path.{_≡_, refl, sym, ap, _∙_}
-use mathlib.Core.Bool.{Bool, true, false, true≢false}
+use mathlib.Core.Bool.{Bool, true, false, not, true≢false}
 use mathlib.Core.List.{List, [], _∷_}
 use native.Mathlib.Nat.{le-of-lt}
 use native.Mathlib.Omega.{arith}
@@ -17,6 +17,15 @@ use Rattle.modulation.specs.Requests.{Request}
 use Rattle.modulation.specs.Tx.{Sender, Adjusted, adjusted, amplitudeOf, reading, readOf}
 use Rattle.modulation.specs.Queueing.{Queueing, queueing, requested, writeOf, idleMarkOf}
 use Rattle.send_app.specs.Call.{half, openedOf, sent, nextPart, queuedTo, queuedMore, blockOf}
+
+-- a test that is asked the other way round
+pub was-false : (b : Bool) → not b ≡ true → b ≡ false
+was-false true e = sym e
+was-false false e = refl
+
+pub was-true : (b : Bool) → not b ≡ false → b ≡ true
+was-true true e = refl
+was-true false e = sym e
 
 -- the sender that a request leaves
 after : {a : Reply Unit} (s : Sender) {s′ : Sender} (r : Request) → queueing a s′ ≡ requested s r → s′ ≡ requested s r .state

@@ -1,15 +1,16 @@
 // The call: idle mark, a training character, idle mark, a bare line end, the text, idle mark.
+use crate::bytes::offset;
+use crate::bytes::pack;
 use crate::complain;
-use crate::header::byte_0;
-use crate::header::byte_1;
-use crate::header::byte_2;
-use crate::header::byte_3;
-use crate::header::header;
+use crate::header::header_float;
+use crate::header::header_pcm;
+use crate::words::Kind;
 use bell103::Role;
 use modulation::Tx;
 use refusal::Counted;
 use refusal::is_accepted;
 ghost use mathlib.Core.Path.{_≡_};
+ghost use mathlib.Core.Bool.{true};
 ghost use mathlib.Core.List.{[]};
 ghost use Prim.Native.Nat.{_+_, _-_, _*_, _≤_, _<_, min};
 ghost use lib.ListN.{length};
@@ -55,10 +56,11 @@ fn opened(tx: Tx) -> Tx
     e.state
 }
 
-// The sender, and how many bytes of the text are queued.
+// The sender, how many bytes of the text are queued, and whether all was written.
 struct Sending {
     tx: Tx,
     at: usize,
+    well: bool,
 }
 
 // The next 64 bytes of the text at the most, if the queue has room for them.
@@ -74,9 +76,17 @@ fn queue_more(s: Sending, text: &[u8]) -> Sending
     let answer = q.answer;
     let state = q.state;
     if is_accepted(answer) {
-        return Sending { tx: state, at: end };
+        return Sending {
+            tx: state,
+            at: end,
+            well: true,
+        };
     }
-    Sending { tx: state, at }
+    Sending {
+        tx: state,
+        at,
+        well: true,
+    }
 }
 
 fn end_of(at: usize, len: usize) -> usize
@@ -92,42 +102,18 @@ fn zeros_1024() -> [f32; 1024]
     [0.0f32; 1024]
 }
 
-// A sample's bits. No sample of the sender's is a NaN; one would be written as the plain one.
-fn pattern_of(x: f32) -> u32 {
-    if x != x {
-        return 0x7FC0_0000;
-    }
-    f32::to_bits(x)
-}
-
-// A sample's four bytes, low byte first, from `at` on.
-fn put_float(bytes: &mut [u8; 4096], at: usize, x: f32)
-    requires { ⌜ (at + 4 ≤ 4096) × (length (now bytes) ≡ 4096) ⌝ }
-    ensures { λ _. ⌜ length (now (bytes .exit)) ≡ 4096 ⌝ }
-{
-    let b = pattern_of(x);
-    bytes[at] = byte_0(b);
-    bytes[at + 1] = byte_1(b);
-    bytes[at + 2] = byte_2(b);
-    bytes[at + 3] = byte_3(b);
-}
-
-// Writes the samples to standard output.
-fn write_samples(samples: &[f32])
+// Writes the samples to standard output; whether that went well.
+fn write_samples(kind: Kind, samples: &[f32]) -> bool
     requires { ⌜ length (now samples) ≤ 1024 ⌝ }
 {
     let mut bytes = io::buffer();
-    let mut i = 0;
-    while i < samples.len() {
-        put_float(&mut bytes, 4 * i, samples[i]);
-        i += 1;
-    }
-    let n = samples.len() * 4;
-    io::write_all(1, &bytes[..n]);
+    pack(kind, samples, &mut bytes);
+    let n = offset(kind, samples.len());
+    io::write_all(1, &bytes[..n])
 }
 
 // The next samples, into the part and to standard output.
-fn send_part(s: Sending, text: &[u8], part: &mut [f32]) -> Sending
+fn send_part(s: Sending, kind: Kind, text: &[u8], part: &mut [f32]) -> Sending
     requires { ⌜ TxSound (s .tx) × (s .at ≤ length (now text)) × (length (now part) ≤ 1024) ⌝ }
     ensures { λ r. ⌜ sent (senderOf (r .tx)) (r .at) (now (part .exit)) ≡ blockOf (senderOf (s .tx)) (now (text .entry)) (s .at) (now (part .entry)) ⌝ }
     ensures { λ r. ⌜ TxSound (r .tx) × (r .at ≤ length (now (text .entry))) ⌝ }
@@ -136,18 +122,22 @@ fn send_part(s: Sending, text: &[u8], part: &mut [f32]) -> Sending
     let tx = q.tx;
     let at = q.at;
     let r = tx.read(part);
-    write_samples(part);
+    let well = write_samples(kind, part);
     let state = r.state;
-    Sending { tx: state, at }
+    Sending {
+        tx: state,
+        at,
+        well,
+    }
 }
 
 // The next n samples.
-fn send_block(s: Sending, text: &[u8], n: usize) -> Sending
+fn send_block(s: Sending, kind: Kind, text: &[u8], n: usize) -> Sending
     requires { ⌜ TxSound (s .tx) × (s .at ≤ length (now text)) × (n ≤ 1024) ⌝ }
     ensures { λ r. ⌜ TxSound (r .tx) × (r .at ≤ length (now (text .entry))) ⌝ }
 {
     let mut block = zeros_1024();
-    send_part(s, text, &mut block[..n])
+    send_part(s, kind, text, &mut block[..n])
 }
 
 fn block_of(left: usize) -> usize
@@ -156,17 +146,32 @@ fn block_of(left: usize) -> usize
     if left < 1024 { left } else { 1024 }
 }
 
-// So many samples of the call. Idle mark follows the text by itself: a sender whose queue is empty holds it.
-fn send_samples(tx: Tx, text: &[u8], samples: usize)
+// How many samples were sent, and whether all of them were written.
+struct Ended {
+    sent: usize,
+    well: bool,
+}
+
+// So many samples of the call, as far as they can be written. Idle mark follows the text by itself: a sender whose queue is empty holds it.
+fn send_samples(tx: Tx, kind: Kind, text: &[u8], samples: usize) -> Ended
     requires { ⌜ TxSound tx ⌝ }
+    ensures { λ r. ⌜ (r .sent ≤ samples) × (r .well ≡ true → r .sent ≡ samples) ⌝ }
 {
-    let mut s = Sending { tx, at: 0 };
-    let mut left = samples;
-    while left > 0 {
-        let n = block_of(left);
-        s = send_block(s, text, n);
-        left -= n;
+    let mut s = Sending {
+        tx,
+        at: 0,
+        well: true,
+    };
+    let mut sent = 0;
+    while sent < samples {
+        let n = block_of(samples - sent);
+        s = send_block(s, kind, text, n);
+        if !s.well {
+            return Ended { sent, well: false };
+        }
+        sent += n;
     }
+    Ended { sent, well: true }
 }
 
 // A count of samples, as far as a header can say it.
@@ -185,8 +190,18 @@ fn within(n: usize) -> u32
     if n < 1000000000 { n as u32 } else { 1000000000 }
 }
 
-// Sends a text of 65,535 bytes at the most.
-fn send_call(role: Role, rate: u16, text: &[u8])
+// Writes all before the samples; whether that went well.
+fn write_header(kind: Kind, rate: u16, samples: u32) -> bool
+    requires { ⌜ samples ≤ 1000000000 ⌝ }
+{
+    match kind {
+        Kind::Float => io::write_all(1, &header_float(rate, samples)),
+        Kind::Pcm16 => io::write_all(1, &header_pcm(rate, samples)),
+    }
+}
+
+// Sends a text of 65,535 bytes at the most; whether all was written.
+fn send_call(role: Role, rate: u16, kind: Kind, text: &[u8]) -> bool
     requires { ⌜ length (now text) ≤ 65536 ⌝ }
 {
     let made = Tx::new(rate as u32, role);
@@ -194,18 +209,22 @@ fn send_call(role: Role, rate: u16, text: &[u8])
     let ready = opened(tx);
     let duration = ready.samples_for_bits(bits_for(text));
     let samples = count_in(duration);
-    let head = header(rate, samples);
-    io::write_all(1, &head);
-    send_samples(ready, text, samples as usize);
+    if !write_header(kind, rate, samples) {
+        return false;
+    }
+    let ended = send_samples(ready, kind, text, samples as usize);
+    ended.well
 }
 
 // Sends all of standard input.
-pub fn send_text(role: Role, rate: u16) {
+pub fn send_text(role: Role, rate: u16, kind: Kind) {
     let mut text = io::large_buffer();
     let n = io::read_full(0, &mut text);
     if n == text.len() {
         complain::of_text();
         return;
     }
-    send_call(role, rate, &text[..n]);
+    if !send_call(role, rate, kind, &text[..n]) {
+        complain::of_output();
+    }
 }

@@ -4,7 +4,7 @@ use crate::words::Unclear;
 pub fn of_words(why: Unclear) {
     match why {
         Unclear::Count => {
-            io::write_all(2, b"send: the words are ROLE RATE\n");
+            io::write_all(2, b"send: the words are ROLE RATE, or ROLE RATE s16\n");
         }
         Unclear::Role => {
             io::write_all(2, b"send: ROLE is originate or answer\n");
@@ -12,9 +12,16 @@ pub fn of_words(why: Unclear) {
         Unclear::Rate => {
             io::write_all(2, b"send: RATE is a number from 8000 to 48000\n");
         }
+        Unclear::Kind => {
+            io::write_all(2, b"send: the third word is s16, or there is none\n");
+        }
     }
 }
 
 pub fn of_text() {
     io::write_all(2, b"send: the text is longer than 65535 bytes\n");
+}
+
+pub fn of_output() {
+    io::write_all(2, b"send: standard output can't be written\n");
 }

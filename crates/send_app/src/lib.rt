@@ -2,8 +2,10 @@
 //
 //   words     what the words of the command ask for     specs/Words.antt
 //   header    the recording's header                    specs/Header.antt
+//   bytes     samples as bytes                          specs/Bytes.antt
 //   call      the call, block by block                  specs/Call.antt
 //   complain  a line on standard error
+mod bytes;
 mod call;
 mod complain;
 mod header;
@@ -15,7 +17,7 @@ use words::Request;
 pub fn run() {
     let request = words::read();
     match request {
-        Request::Call { role, rate } => call::send_text(role, rate),
+        Request::Call { role, rate, kind } => call::send_text(role, rate, kind),
         Request::Unclear(why) => complain::of_words(why),
     }
 }

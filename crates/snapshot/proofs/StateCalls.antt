@@ -23,7 +23,9 @@ use Rattle.numeric.proofs.Parts.{part-next, part-left, put-front, put-behind}
 use Rattle.calls.specs.Receive.{callIn, called}
 use Rattle.calls.specs.ReceiveSteps.{Calls}
 use Rattle.snapshot.specs.ReceiverState.{placeNumbers, toneNumbers, markNumbers, ownNumbers, lastNumbers, resamplerNumbers, ringNumbers, stateNumbers, stateLength, receiverAfter}
+use Rattle.snapshot.specs.ResamplerState.{shownAfter, traced}
 use Rattle.snapshot.specs.StateSteps.{Put, PutMany, Moves}
+use Rattle.calls.specs.Resample.{Scripted}
 use Rattle.calls.specs.declared.answers.Heard.{Heard}
 use Rattle.calls.specs.declared.receive.Call.{Call}
 use Rattle.snapshot.specs.declared.state.Spot.{Spot}
@@ -55,6 +57,10 @@ put-put at b xs ys l l′ l″ is p q =
       is = q .is ∙ rw (front, rest, append-assoc (take at l), append-assoc xs);
     }
 
+-- a list at the front
+pub front-put : (n : ℕ) (xs l l′ : List Float) → PutMany 0 n xs l l′ → l′ ≡ xs ++ drop n l
+front-put n xs l l′ p = p .put .is ∙ rw (p .many, zero-add)
+
 -- ---- the resampler
 pub resampler-put : (s : State) (taps history window l1 l2 l3 l4 : List Float) → taps ≡ tapNumbers s → history ≡ historyNumbers s → window ≡ windowNumbers s
     → length taps ≡ 373 → length history ≡ 373 → Put 0 taps l1 l2 → Put 373 history l2 l3 → Put 746 window l3 l4 → PutMany 0 753 (resamplerNumbers s) l1 l4
@@ -65,6 +71,10 @@ resampler-put s taps history window l1 l2 l3 l4 t-is h-is w-is t-long h-long p q
       put = put-put 0 373 taps (history ++ window) l1 l2 l4 (omega (arith, t-long)) p (put-put 373 746 history window l2 l3 l4 (omega (arith, h-long)) q r);
       many = rw (length-append taps, length-append history) (omega (arith, t-long, h-long, w-long));
     })
+
+-- a script of its calls, and what is shown behind it
+pub traced-by : (x y : Scripted) (l l′ : List Float) → x ≡ y → l′ ≡ shownAfter (x .answer) (x .state) l → traced (x .run) l′ ≡ traced (y .run) (shownAfter (y .answer) (y .state) l)
+traced-by x y l l′ e s = rw s (ap (λ (z : Scripted). traced (z .run) (shownAfter (z .answer) (z .state) l)) e)
 
 -- ---- the rings
 pub rings-put : (d : Demodulator) (k : Core) (g : Rings) (place l1 l2 l3 l4 l5 l6 : List Float) → k ≡ d .core → g ≡ d .rings → place ≡ placeNumbers (k .corr)

@@ -1,3 +1,5 @@
--- What is shown of a receiver's state.
+-- What is shown of a state.
 pub mod ReceiverState
 pub mod StateSteps
+pub mod ResamplerState
+pub mod SenderState

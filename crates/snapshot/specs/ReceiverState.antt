@@ -30,6 +30,9 @@ truth b = if b then one64 else zero64
 abbrev pub resamplerNumbers : State → List Float
 resamplerNumbers s = tapNumbers s ++ (historyNumbers s ++ windowNumbers s)
 
+abbrev pub resamplerLength : ℕ
+resamplerLength = 753
+
 -- the correlator's place, whether its rings are filled, and the four rings in place order
 abbrev pub placeNumbers : Correlator → List Float
 placeNumbers c = whole (c .pos) ∷ truth (c .filled) ∷ []

@@ -8,14 +8,16 @@ use modem::Rx;
 use numeric::ends::part_end;
 use refusal::Acceptance;
 use resampling::MAX_TAPS;
+use resampling::Resampler;
 ghost use mathlib.Core.Path.{_≡_};
 ghost use mathlib.Core.List.{_++_};
 ghost use Prim.Native.Nat.{_+_, _≤_, _/_, _<_};
 ghost use lib.ListN.{length, drop, replicate};
+ghost use Rattle.resampling.specs.ResampleRep.{stateOf, Sound};
 ghost use Rattle.demodulation.specs.DemodRep.{demodulatorOf, DemodSound};
 ghost use Rattle.modem.specs.RxRep.{receiverOf, RxSound};
 ghost use Rattle.calls.specs.Receive.{callsIn};
-ghost use Rattle.snapshot.specs.ReceiverState.{truth, placeNumbers, toneNumbers, markNumbers, ownNumbers, blockNumber, lastNumbers, resamplerNumbers, ringNumbers, stateNumbers, stateLength, receiverAfter, shown, stateRun};
+ghost use Rattle.snapshot.specs.ReceiverState.{truth, placeNumbers, toneNumbers, markNumbers, ownNumbers, blockNumber, lastNumbers, resamplerNumbers, resamplerLength, ringNumbers, stateNumbers, stateLength, receiverAfter, shown, stateRun};
 ghost use Rattle.snapshot.specs.StateSteps.{Put, PutMany, Standing, Moves};
 
 // ---- the script
@@ -213,7 +215,7 @@ fn last_numbers(rx: Rx) -> [f64; 8]
 // ---- into the slice
 
 // Copies xs behind the first `at` of out.
-fn put(out: &mut [f64], at: usize, xs: &[f64])
+pub(crate) fn put(out: &mut [f64], at: usize, xs: &[f64])
     requires { ⌜ at + length (now xs) ≤ length (now out) ⌝ }
     ensures { λ _. ⌜ Put at (now (xs .entry)) (now (out .entry)) (now (out .exit)) ⌝ }
 {
@@ -231,18 +233,26 @@ fn put_ring(out: &mut [f64], at: usize, ring: [f64; 27])
     put(out, at, &ring);
 }
 
-// The resampler's 753 numbers, at the front.
-fn put_resampler(rx: Rx, out: &mut [f64])
-    requires { ⌜ RxSound rx × (stateLength ≤ length (now out)) ⌝ }
-    ensures { λ _. ⌜ PutMany 0 753 (resamplerNumbers (receiverOf rx .demod .resampler)) (now (out .entry)) (now (out .exit)) ⌝ }
+// A resampler's 753 numbers, at the front.
+pub(crate) fn put_numbers(r: Resampler, out: &mut [f64])
+    requires { ⌜ Sound r × (resamplerLength ≤ length (now out)) ⌝ }
+    ensures { λ _. ⌜ PutMany 0 753 (resamplerNumbers (stateOf r)) (now (out .entry)) (now (out .exit)) ⌝ }
 {
-    let r = rx.resampler();
     let taps = r.tap_numbers();
     let history = r.history_numbers();
     let window = r.window_numbers();
     put(out, 0, &taps);
     put(out, MAX_TAPS, &history);
     put(out, 746, &window);
+}
+
+// Those of the receiver's resampler.
+fn put_resampler(rx: Rx, out: &mut [f64])
+    requires { ⌜ RxSound rx × (stateLength ≤ length (now out)) ⌝ }
+    ensures { λ _. ⌜ PutMany 0 753 (resamplerNumbers (receiverOf rx .demod .resampler)) (now (out .entry)) (now (out .exit)) ⌝ }
+{
+    let r = rx.resampler();
+    put_numbers(r, out);
 }
 
 // The correlator's place and rings, 110 numbers behind those.

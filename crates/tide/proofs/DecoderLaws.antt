@@ -38,22 +38,23 @@ unfolding tookAll verdictsIn
 verdictsIn-append d [] ys = refl
 verdictsIn-append d (x ∷ xs) ys = rw (verdictsIn-append (took d x) xs ys, append-assoc) refl
 
--- ---- what is heard, as text: the bytes alone move a decoder
-pub as-text : (d : Decoder) (hs : List Happening)
+-- ---- "a line runs on over a lost carrier": with every loss and every change of the report left out, the decoder, the lines that are ended and
+-- their answers are the same
+pub runs-on : (d : Decoder) (hs : List Happening)
     → (tookAll d hs ≡ tookAll d (typed (bytesIn hs))) × (linesIn d hs ≡ linesIn d (typed (bytesIn hs))) × (verdictsIn d hs ≡ verdictsIn d (typed (bytesIn hs)))
 unfolding bytesIn typed tookAll linesIn verdictsIn took moveOf moved
-as-text d [] = (refl, refl, refl)
-as-text d (Byte c ∷ hs) =
-    let r = as-text (took d (Byte c)) hs in
+runs-on d [] = (refl, refl, refl)
+runs-on d (Byte c ∷ hs) =
+    let r = runs-on (took d (Byte c)) hs in
     (r .0, ap (λ (ls : List Line). lineAt d (moveOf (Byte c)) ++ ls) (r .1), ap (λ (vs : List ℕ). verdictAt d (moveOf (Byte c)) ++ vs) (r .2))
-as-text d (Lost ∷ hs) = as-text d hs
-as-text d (Up ∷ hs) = as-text d hs
-as-text d (Down ∷ hs) = as-text d hs
+runs-on d (Lost ∷ hs) = runs-on d hs
+runs-on d (Up ∷ hs) = runs-on d hs
+runs-on d (Down ∷ hs) = runs-on d hs
 
 -- with no byte among what is heard nothing moves
 pub no-byte : (d : Decoder) (hs : List Happening) → bytesIn hs ≡ [] → (tookAll d hs ≡ d) × (linesIn d hs ≡ []) × (verdictsIn d hs ≡ [])
 unfolding typed tookAll linesIn verdictsIn
-no-byte d hs e = rw e at (as-text d hs)
+no-byte d hs e = rw e at (runs-on d hs)
 
 -- ---- the station stays
 station-by : (m : Move) (d : Decoder) → moved d m .station ≡ d .station

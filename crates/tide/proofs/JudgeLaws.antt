@@ -1,7 +1,7 @@
 -- What a line's judgement goes by: a line for readers from 1 on, whoever wrote it, on station, stamp, age and level alone; one for newer
 -- readers gets 17. And a line that passes 11 to 16 is one that some writer writes. Assumes nothing.
 use Prim.Native.Nat.{ℕ, zero, suc, _-_, _%_, _≤_, _<_}
-use mathlib.Core.Path.{_≡_, refl, sym, _∙_}
+use mathlib.Core.Path.{_≡_, refl, sym, ap, _∙_}
 use mathlib.Core.Logic.{_⊎_, _↔_, inl, inr}
 use mathlib.Core.Bool.{Bool, true, false, not, _&&_, _||_}
 use mathlib.Core.List.{List}
@@ -13,7 +13,7 @@ use Rattle.numeric.specs.If.{if_then_else_}
 use Rattle.refusal.specs.Refusals.{first}
 use Rattle.hexadecimal.specs.Hex.{allHex, unhex, hexLine, total}
 use Rattle.tide.specs.Frame.{versionOf, readerOf, saidLength, stationOf, stampOf, ageOf, levelOf, signed, waterOf, Intact, Writer, Rules, bitsOf, frameOf, lineBy}
-use Rattle.tide.specs.Judge.{damageOf, Passes, Passed, ofFields, judgedOf, ofLine, readingOf, Shown, settle, judge}
+use Rattle.tide.specs.Judge.{damageOf, Passes, Passed, Readable, Past17, ofFields, judgedOf, ofLine, readingOf, Shown, shows, Verdict, later, settle, judge}
 use Rattle.hexadecimal.proofs.HexLaws.{unhex-hexLine, allHex-hexLine, length-hexLine, length-unhex, unhex-bytes, hexLine-unhex}
 use Rattle.tide.proofs.FrameLaws.{says-station, says-stamp, says-age, says-level, signed-bits, frame-intact, written}
 
@@ -152,12 +152,25 @@ passed l more p =
     over : (k : ℕ) → (k ≡ 0 → ⊥) → 1 ≤ k
     over k p = omega arith
 
-pub some-writer : (l : List ℕ) (more : Bool) → Passes l more → (w : Writer) × Rules w × (lineBy w ≡ l) × (more ≡ false)
+writes-for : (w : Writer) (f : List ℕ) → frameOf w ≡ f → w .reader ≡ readerOf f
+unfolding frameOf
+writes-for w f e = ap (λ (g : List ℕ). readerOf g) e
+
+-- the writer's reader is the line's F
+pub some-writer : (l : List ℕ) (more : Bool) → Passes l more
+    → (w : Writer) × Rules w × (w .reader ≡ readerOf (unhex l)) × (lineBy w ≡ l) × (more ≡ false)
 unfolding lineBy
 some-writer l more p =
     let k = passed l more p in
     let w = written (unhex l) (k .frame) in
-    (w .0, w .1, rw (w .2) (k .line), k .whole)
+    (w .0, w .1, writes-for (w .0) (unhex l) (w .2), rw (w .2) (k .line), k .whole)
+
+-- and 1 where 17 does not apply
+pub readable-writer : (l : List ℕ) (more : Bool) → Readable l more
+    → (w : Writer) × Rules w × (w .reader ≡ 1) × (lineBy w ≡ l) × (more ≡ false)
+readable-writer l more r =
+    let w = some-writer l more (r .intact) in
+    (w .0, w .1, omega (arith, w .1 .reader .0, w .2, r .reader), w .3, w .4)
 
 -- ---- a line passes 11 to 16 exactly where its number is none of these
 first-few : (t : Bool) (k n : ℕ) → k ≤ 16 → n ≤ 16 → first t k n ≤ 16
@@ -175,18 +188,25 @@ damage-few l more =
     (first-few _ 15 _ (omega arith)
     (first-few _ 16 0 (omega arith) (omega arith))))))
 
-first-over : (t : Bool) (k n : ℕ) → 17 ≤ k → (n ≡ 0) ⊎ (17 ≤ n) → (first t k n ≡ 0) ⊎ (17 ≤ first t k n)
+first-over : (least : ℕ) (t : Bool) (k n : ℕ) → least ≤ k → (n ≡ 0) ⊎ (least ≤ n) → (first t k n ≡ 0) ⊎ (least ≤ first t k n)
 unfolding first
-first-over true k n p q = inr p
-first-over false k n p q = q
+first-over least true k n p q = inr p
+first-over least false k n p q = q
+
+fields-over : (mine station stamp age level : ℕ) → Past17 (ofFields mine station stamp age level)
+unfolding ofFields
+fields-over mine station stamp age level =
+    first-over 18 _ 18 _ (omega arith)
+    (first-over 18 _ 19 _ (omega arith)
+    (first-over 18 _ 20 0 (omega arith) (inl refl)))
+
+less-by : (n : ℕ) → Past17 n → (n ≡ 0) ⊎ (17 ≤ n)
+less-by n (inl e) = inl e
+less-by n (inr h) = inr (omega arith)
 
 judged-over : (mine : ℕ) (f : List ℕ) → (judgedOf mine f ≡ 0) ⊎ (17 ≤ judgedOf mine f)
-unfolding judgedOf ofFields
-judged-over mine f =
-    first-over _ 17 _ (omega arith)
-    (first-over _ 18 _ (omega arith)
-    (first-over _ 19 _ (omega arith)
-    (first-over _ 20 0 (omega arith) (inl refl))))
+unfolding judgedOf
+judged-over mine f = first-over 17 _ 17 _ (omega arith) (less-by _ (fields-over mine _ _ _ _))
 
 passes-by : (t : Bool) (n k : ℕ) → eqb n 0 ≡ t → n ≤ 16 → ((if t then k else n) ≡ 0) ⊎ (17 ≤ (if t then k else n)) → n ≡ 0
 passes-by true n k e h p = eqb-true n 0 e
@@ -197,3 +217,39 @@ pub passes-number : (mine : ℕ) (l : List ℕ) (more : Bool) → ((ofLine mine 
 unfolding ofLine
 passes-number mine l more =
     (λ p. passes-by _ (damageOf l more) (judgedOf mine (unhex l)) refl (damage-few l more) p, λ e. rw e (judged-over mine (unhex l)))
+
+-- ---- and 11 to 17 exactly where its answer is none of these
+newer-by : (t : Bool) (n : ℕ) → Past17 (first t 17 n) → t ≡ false
+unfolding first
+newer-by true n (inl e) = absurd (omega arith)
+newer-by true n (inr h) = absurd (omega arith)
+newer-by false n p = refl
+
+of-readable : (mine : ℕ) (l : List ℕ) (more : Bool) → Passes l more → ofLine mine l more ≡ judgedOf mine (unhex l)
+unfolding ofLine
+of-readable mine l more p = rw p refl
+
+readable-number : (mine : ℕ) (l : List ℕ) (more : Bool) → Past17 (ofLine mine l more) ↔ Readable l more
+unfolding judgedOf
+readable-number mine l more = (
+  λ p.
+      let i = passes-number mine l more .0 (less-by _ p) in
+      record { intact = i; reader = ltb-false 1 _ (newer-by _ _ (rw (of-readable mine l more i) at p)) },
+  λ r. rw (of-readable mine l more (r .intact), le-ltb 1 (readerOf (unhex l)) (r .reader)) (unfold first in fields-over mine _ _ _ _),
+)
+
+-- a good line's answer is 0 or 34, any other's its number
+settled-by : (t u : Bool) (n : ℕ) (r s : Shown) → eqb n 0 ≡ t
+    → Past17 ((if_then_else_ {A = Verdict} t (if u then record { answer = 0; reading = s } else record { answer = 34; reading = r }) (record { answer = n; reading = r })) .answer)
+    ↔ Past17 n
+settled-by true true n r s e = (λ _. inl (eqb-true n 0 e), λ _. inl refl)
+settled-by true false n r s e = (λ _. inl (eqb-true n 0 e), λ _. inr (omega arith))
+settled-by false u n r s e = (λ p. p, λ p. p)
+
+pub readable-answer : (mine : ℕ) (r : Shown) (l : List ℕ) (more : Bool) → Past17 (judge mine r l more .answer) ↔ Readable l more
+unfolding judge settle
+readable-answer mine r l more =
+    let n = ofLine mine l more in
+    let s = settled-by (eqb n 0) (later r (readingOf (unhex l))) n r (shows (readingOf (unhex l))) refl in
+    let k = readable-number mine l more in
+    (λ p. k .0 (s .0 p), λ q. s .1 (k .1 q))

@@ -4,6 +4,7 @@ pub mod LineExamples
 pub mod JudgeLaws
 pub mod Checks
 pub mod DecoderLaws
+pub mod LinesLaws
 pub mod DecoderRepLaws
 pub mod Stores
 pub mod Moves

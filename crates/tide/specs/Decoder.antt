@@ -8,7 +8,7 @@ use lib.Dec.{ltb, leb, eqb}
 use lib.ListN.{length, getD, set, take, drop, replicate}
 use Rattle.numeric.specs.If.{if_then_else_}
 use Rattle.hexadecimal.specs.Hex.{unhex, total}
-use Rattle.tide.specs.Frame.{Writer, Rules, lineBy}
+use Rattle.tide.specs.Frame.{readerOf, Writer, Rules, lineBy}
 use Rattle.tide.specs.Judge.{Reading, readingOf, Shown, none, shows, Verdict, judge, ofLine, Passes}
 use Rattle.happenings.specs.declared.happening.Happening.{Happening}
 use Rattle.happenings.specs.declared.happening.Happening.the-variants.{Byte, Lost, Up, Down}
@@ -205,8 +205,8 @@ pub record SinceFresh (station : ℕ) (hs : List Happening) : Type 0 where
       (ls rs : List Line) (l : Line) → linesIn (freshDecoder station) hs ≡ ls ++ l ∷ rs
       → (getD (verdictsIn (freshDecoder station) hs) (length ls) 0 ≡ judge station (shownOn station none ls) (l .chars) (l .more) .answer)
       × (shownOn station none (ls ++ l ∷ []) ≡ judge station (shownOn station none ls) (l .chars) (l .more) .reading)
-  -- and a line that passes 11 to 16 is one that some writer writes
+  -- and a line that passes 11 to 16 is one that some writer writes, for readers from the line's F on
   pub writers :
       (ls rs : List Line) (l : Line) → linesIn (freshDecoder station) hs ≡ ls ++ l ∷ rs
       → Passes (l .chars) (l .more)
-      → (w : Writer) × Rules w × (lineBy w ≡ l .chars) × (l .more ≡ false)
+      → (w : Writer) × Rules w × (w .reader ≡ readerOf (unhex (l .chars))) × (lineBy w ≡ l .chars) × (l .more ≡ false)

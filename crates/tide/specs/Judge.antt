@@ -1,6 +1,7 @@
 -- What a line is judged to be: the numbers 11 to 20 and 34, and the reading that it leaves. Assumes nothing.
-use Prim.Native.Nat.{ℕ, _%_}
+use Prim.Native.Nat.{ℕ, _%_, _≤_}
 use mathlib.Core.Path.{_≡_}
+use mathlib.Core.Logic.{_⊎_}
 use mathlib.Core.Bool.{Bool, true, false, not, _||_}
 use mathlib.Core.List.{List}
 use lib.Dec.{ltb, eqb}
@@ -33,6 +34,15 @@ pub record Passed (l : List ℕ) (more : Bool) : Type 0 where
   pub whole : more ≡ false
   pub frame : Intact (unhex l)
   pub line : hexLine (unhex l) ≡ l
+
+-- a line that passes 11 to 17: intact, and "17 F > 1" does not apply; it is "for readers from 1 on"
+pub record Readable (l : List ℕ) (more : Bool) : Type 0 where
+  pub intact : Passes l more
+  pub reader : readerOf (unhex l) ≤ 1
+
+-- an answer that is none of 11 to 17
+abbrev pub Past17 : ℕ → Type 0
+Past17 n = (n ≡ 0) ⊎ (18 ≤ n)
 
 -- ---- 17 to 20, by a board of station `mine`
 -- of the fields of a frame for readers from 1 on: "18 station not the board's. 19 A = 255 or A > T. 20 level missing"; 0 where none applies

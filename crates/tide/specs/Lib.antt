@@ -1,6 +1,7 @@
--- The definitions that the contracts of `tide` cite: a frame, a line judged, the decoder; `..Rep`: how the code holds them.
+-- The definitions that the contracts of `tide` cite: a frame, a line judged, the decoder, the lines of a text; `..Rep`: how the code holds them.
 pub mod Frame
 pub mod Judge
 pub mod JudgeRep
 pub mod Decoder
 pub mod DecoderRep
+pub mod Lines

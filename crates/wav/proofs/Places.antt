@@ -1,16 +1,20 @@
 -- What the place decides, at a place that is known by an equation. Assumes nothing.
-use Prim.Native.Nat.{ℕ, _*_, _≤_, _<_}
-use mathlib.Core.Path.{_≡_, refl}
-use mathlib.Core.Bool.{Bool, true, false}
+use Prim.Native.Nat.{ℕ, _*_, _/_, _≤_, _<_}
+use mathlib.Core.Path.{_≡_, refl, sym, ap, _∙_}
+use mathlib.Core.Bool.{true}
 use mathlib.Core.List.{List, [], _∷_}
 use native.Mathlib.Nat.{mul-le-mul-left}
 use native.Mathlib.Omega.{arith}
 use denote.Enum.Declared.{tagOf}
 use types.Run.{OneOf, miss}
 use lib.Dec.{eqb}
-use Rattle.numeric.specs.If.{if_then_else_}
-use Rattle.wav.specs.Wav.{done, finishAt}
-use Rattle.wav.specs.Words.{widthOf}
+use borrow.Author.Tests.{eq-eqb}
+use Rattle.wav.specs.Sample.{bytesIn}
+use Rattle.wav.specs.Wav.{done, settleKnown, settle, finishAt}
+use Rattle.wav.specs.Words.{encodingOf}
+use Rattle.wav.specs.declared.sample.Encoding.{Encoding}
+use Rattle.wav.specs.declared.sample.Encoding.the-variants as coding
+use Rattle.wav.specs.declared.words.Known.{Known}
 use Rattle.wav.specs.declared.wav.Wav.{Wav}
 use Rattle.wav.specs.declared.wav.Step.{Step}
 use Rattle.wav.specs.declared.wav.Fault.the-variants as fault
@@ -20,8 +24,8 @@ use Rattle.wav.specs.declared.wav.Place.the-variants as at
 use Rattle.wav.specs.declared.wav.End.{End}
 use Rattle.wav.specs.declared.wav.End.the-variants as end
 
-pub done-at : {p q : Place} (w : Wav) (n : ℕ) {r : Step} → p ≡ q → r ≡ done q w n → r ≡ done p w n
-done-at w n e h = rw e h
+pub done-at : {p q : Place} (w : Wav) (n word : ℕ) {r : Step} → p ≡ q → r ≡ done q w n word → r ≡ done p w n word
+done-at w n word e h = rw e h
 
 pub ends-at : {p q : Place} (w : Wav) {r : End} → p ≡ q → r ≡ finishAt q w → r ≡ finishAt p w
 ends-at w e h = rw e h
@@ -51,17 +55,24 @@ in-header at.Rest w h = absurd (miss header 15 tt h)
 in-header at.Over w h = absurd (miss header 16 tt h)
 in-header (at.Bad f) w h = absurd (miss header 17 tt h)
 
--- a sample has four bytes at the most
-pub width-few : (tag bits : ℕ) → widthOf tag bits ≤ 4
-unfolding widthOf
-width-few tag bits = by (eqb tag 1) (eqb bits 16) (eqb tag 3) (eqb bits 32)
-  where
-    by : (a b c d : Bool) → (if a then (if b then 2 else 0) else (if c then (if d then 4 else 0) else 0)) ≤ 4
-    by true true c d = omega arith
-    by true false c d = omega arith
-    by false b true true = omega arith
-    by false b true false = omega arith
-    by false b false d = omega arith
+-- what the encoding decides
+pub settles-at : (w : Wav) (tag : ℕ) {k q : Known} {r : Step} → k ≡ encodingOf tag (w .shape / 65536) → k ≡ q → r ≡ settleKnown q w → r ≡ settle w tag
+unfolding settle
+settles-at w tag e f h = h ∙ ap (λ (k : Known). settleKnown k w) (sym f ∙ e)
 
-pub frame-fits : (channels width : ℕ) → channels < 65536 → width ≤ 4 → channels * width < 4294967296
+-- a sample has eight bytes at the most
+pub bytes-few : (k : Encoding) → bytesIn k ≤ 8
+bytes-few coding.MuLaw = omega arith
+bytes-few coding.ALaw = omega arith
+bytes-few coding.Pcm8 = omega arith
+bytes-few coding.Pcm16 = omega arith
+bytes-few coding.Pcm24 = omega arith
+bytes-few coding.Pcm32 = omega arith
+bytes-few coding.Float32 = omega arith
+bytes-few coding.Float64 = omega arith
+
+pub frame-fits : (channels width : ℕ) → channels < 65536 → width ≤ 8 → channels * width < 4294967296
 frame-fits c w a b = omega (arith, mul-le-mul-left c b)
+
+pub same-frame : (align channels : ℕ) {width : ℕ} (k : Encoding) → align ≡ channels * width → width ≡ bytesIn k → eqb align (channels * bytesIn k) ≡ true
+same-frame align channels k e f = eq-eqb align (channels * bytesIn k) (e ∙ ap (λ (z : ℕ). channels * z) f)

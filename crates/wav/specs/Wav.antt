@@ -6,8 +6,12 @@ use mathlib.Core.Bool.{Bool, true, false}
 use lib.Dec.{ltb, eqb}
 use Rattle.numeric.specs.If.{if_then_else_}
 use Rattle.refusal.specs.Refusals.{rateRefused}
-use Rattle.wav.specs.Sample.{sampleOf}
-use Rattle.wav.specs.Words.{shifted, widthOf, isEndless}
+use Rattle.wav.specs.Sample.{bytesIn, sampleIn}
+use Rattle.wav.specs.Words.{shifted, lastFour, encodingOf, isEndless}
+use Rattle.wav.specs.declared.sample.Encoding.{Encoding}
+use Rattle.wav.specs.declared.sample.Encoding.the-variants as coding
+use Rattle.wav.specs.declared.words.Known.{Known}
+use Rattle.wav.specs.declared.words.Known.the-variants as known
 use Rattle.wav.specs.declared.wav.Wav.{Wav}
 use Rattle.wav.specs.declared.wav.Step.{Step}
 use Rattle.wav.specs.declared.wav.Fault.{Fault}
@@ -44,11 +48,15 @@ padded size = size + size % 2
 -- ---- the reader's states
 -- before the first byte
 abbrev pub freshWav : Wav
-freshWav = record { place = at.Riff; left = 4; word = 0; rest = 0; format = 0; rate = 0; shape = 0; align = 0; width = 0; frames = 0 }
+freshWav = record { place = at.Riff; left = 4; word = 0; rest = 0; format = 0; rate = 0; shape = 0; align = 0; encoding = coding.Pcm16; width = 2; frames = 0 }
 
 -- before the first of "raw 32-bit little-endian floats": frames of four bytes, until the end of the file
 abbrev pub rawWav : Wav
-rawWav = record { place = at.Sample; left = 4; word = 0; rest = 0; format = 0; rate = 0; shape = 0; align = 4; width = 4; frames = 0 }
+rawWav = record { place = at.Sample; left = 4; word = 0; rest = 0; format = 0; rate = 0; shape = 0; align = 4; encoding = coding.Float32; width = 4; frames = 0 }
+
+-- before the first of raw PCM of 16 bits, low byte first: frames of two bytes, until the end of the file
+abbrev pub raw16Wav : Wav
+raw16Wav = record { place = at.Sample; left = 2; word = 0; rest = 0; format = 0; rate = 0; shape = 0; align = 2; encoding = coding.Pcm16; width = 2; frames = 0 }
 
 -- on to a place of so many bytes
 abbrev pub moved : Wav → Place → ℕ → Wav
@@ -62,6 +70,7 @@ moved w place left =
       rate = w .rate;
       shape = w .shape;
       align = w .align;
+      encoding = w .encoding;
       width = w .width;
       frames = w .frames;
     }
@@ -78,13 +87,14 @@ words w rest format rate shape =
       rate = rate;
       shape = shape;
       align = w .align;
+      encoding = w .encoding;
       width = w .width;
       frames = w .frames;
     }
 
--- with frames of so many bytes, samples of so many, and so many frames
-abbrev pub framed : Wav → ℕ → ℕ → ℕ → Wav
-framed w align width frames =
+-- with frames of so many bytes, and samples of this encoding
+abbrev pub framed : Wav → ℕ → Encoding → Wav
+framed w align k =
     record {
       place = w .place;
       left = w .left;
@@ -94,7 +104,25 @@ framed w align width frames =
       rate = w .rate;
       shape = w .shape;
       align = align;
-      width = width;
+      encoding = k;
+      width = bytesIn k;
+      frames = w .frames;
+    }
+
+-- with so many frames to come
+abbrev pub counting : Wav → ℕ → Wav
+counting w frames =
+    record {
+      place = w .place;
+      left = w .left;
+      word = w .word;
+      rest = w .rest;
+      format = w .format;
+      rate = w .rate;
+      shape = w .shape;
+      align = w .align;
+      encoding = w .encoding;
+      width = w .width;
       frames = frames;
     }
 
@@ -140,20 +168,21 @@ abbrev pub rateWord : Wav → ℕ → Step
 rateWord w word = going (words w (w .rest) (w .format) word (w .shape)) at.Flow 4
 
 -- the format is known: it is one that is read, or the first of these faults that it has
-abbrev pub settled : Wav → ℕ → ℕ → Step
-settled w align width = skip (framed w align width (w .frames)) (w .rest)
+unfoldable pub settleAs : Wav → Encoding → Step
+settleAs w k =
+    let align = w .shape % 65536 in
+    let channels = w .format / 65536 in
+    if eqb channels 0 then bad w fault.Channels
+    else if rateRefused (w .rate) then bad w fault.Rate
+    else if eqb align (channels * bytesIn k) then skip (framed w align k) (w .rest)
+    else bad w fault.Align
+
+abbrev pub settleKnown : Known → Wav → Step
+settleKnown known.Not w = bad w fault.Encoding
+settleKnown (known.As k) w = settleAs w k
 
 unfoldable pub settle : Wav → ℕ → Step
-settle w tag =
-    let align = w .shape % 65536 in
-    let bits = w .shape / 65536 in
-    let channels = w .format / 65536 in
-    let width = widthOf tag bits in
-    if eqb width 0 then bad w fault.Encoding
-    else if eqb channels 0 then bad w fault.Channels
-    else if rateRefused (w .rate) then bad w fault.Rate
-    else if eqb align (channels * width) then settled w align width
-    else bad w fault.Align
+settle w tag = settleKnown (encodingOf tag (w .shape / 65536)) w
 
 -- bytes of a frame, and bits of a sample above them. An extensible format (FFFE) has its encoding in two bytes further on
 abbrev pub shaped : Wav → ℕ → ℕ → Wav
@@ -167,7 +196,7 @@ shapeWord w word =
 
 -- the header is read: so many frames, 0 where they run to the end of the file
 abbrev pub start : Wav → ℕ → Step
-start w frames = step (moved (framed w (w .align) (w .width) frames) at.Sample (w .width)) (out.Start (w .rate))
+start w frames = step (moved (counting w frames) at.Sample (w .width)) (out.Start (w .rate))
 
 unfoldable pub dataSize : Wav → ℕ → Step
 dataSize w size =
@@ -182,39 +211,39 @@ unfoldable pub nextFrame : Wav → Wav
 nextFrame w =
     if eqb (w .frames) 0 then moved w at.Sample (w .width)
     else if eqb (w .frames) 1 then moved w at.Over 1
-    else moved (framed w (w .align) (w .width) (w .frames - 1)) at.Sample (w .width)
+    else moved (counting w (w .frames - 1)) at.Sample (w .width)
 
 -- "mono or the first channel": the others' bytes of the frame are skipped
 unfoldable pub overOthers : Wav → Wav
 overOthers w = if ltb (w .width) (w .align) then moved w at.Rest (w .align - w .width) else nextFrame w
 
 unfoldable pub sampled : Wav → ℕ → Step
-sampled w word = step (overOthers w) (out.Sample (sampleOf (w .width) word))
+sampled w word = step (overOthers w) (out.Sample (sampleIn (w .encoding) word))
 
 abbrev pub frameOver : Wav → Step
 frameOver w = step (nextFrame w) out.Going
 
 -- ---- one byte
--- what the last byte of each place does
-unfoldable pub done : Place → Wav → ℕ → Step
-done at.Riff w word = fixed w (eqb word riff) at.Length fault.Riff
-done at.Length w word = going w at.Wave 4
-done at.Wave w word = fixed w (eqb word wave) at.Name fault.Wave
-done at.Name w word = named w word
-done at.FormatSize w word = formatSize w word
-done at.DataSize w word = dataSize w word
-done at.OtherSize w word = skip w (padded word)
-done at.Format w word = formatWord w word
-done at.Rate w word = rateWord w word
-done at.Flow w word = going w at.Align 4
-done at.Align w word = shapeWord w word
-done at.Extra w word = going w at.Sub 4
-done at.Sub w word = settle w (word % 65536)
-done at.Skip w word = going w at.Name 4
-done at.Sample w word = sampled w word
-done at.Rest w word = frameOver w
-done at.Over w word = going w at.Over 1
-done (at.Bad f) w word = bad w f
+-- what the last byte of each place does: n is the number of the last four bytes, `word` of the last eight
+unfoldable pub done : Place → Wav → ℕ → ℕ → Step
+done at.Riff w n word = fixed w (eqb n riff) at.Length fault.Riff
+done at.Length w n word = going w at.Wave 4
+done at.Wave w n word = fixed w (eqb n wave) at.Name fault.Wave
+done at.Name w n word = named w n
+done at.FormatSize w n word = formatSize w n
+done at.DataSize w n word = dataSize w n
+done at.OtherSize w n word = skip w (padded n)
+done at.Format w n word = formatWord w n
+done at.Rate w n word = rateWord w n
+done at.Flow w n word = going w at.Align 4
+done at.Align w n word = shapeWord w n
+done at.Extra w n word = going w at.Sub 4
+done at.Sub w n word = settle w (n % 65536)
+done at.Skip w n word = going w at.Name 4
+done at.Sample w n word = sampled w word
+done at.Rest w n word = frameOver w
+done at.Over w n word = going w at.Over 1
+done (at.Bad f) w n word = bad w f
 
 unfoldable pub addByte : Wav → ℕ → Step
 addByte w b =
@@ -229,10 +258,11 @@ addByte w b =
       rate = w .rate;
       shape = w .shape;
       align = w .align;
+      encoding = w .encoding;
       width = w .width;
       frames = w .frames;
     }) out.Going
-    else done (w .place) w (shifted (w .word) b)
+    else done (w .place) w (lastFour (shifted (w .word) b)) (shifted (w .word) b)
 
 -- ---- the end of the file
 -- between frames: too early where the header promised more

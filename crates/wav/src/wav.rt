@@ -1,12 +1,17 @@
 // The reader. A recording is a row of chunks, each with a name and a size; its header is read in words of four bytes, low byte first.
+use crate::sample::Encoding;
+use crate::sample::bytes_in;
 use crate::sample::sample;
+use crate::words::Known;
+use crate::words::encoding_of;
 use crate::words::endless;
+use crate::words::last_four;
 use crate::words::shifted_in;
-use crate::words::width_of;
 use refusal::rate_ok;
 ghost use mathlib.Core.Path.{_≡_};
-ghost use Rattle.wav.specs.Wav.{freshWav, rawWav, moved, going, bad, fixed, skip, padded, named, formatSize, formatWord, rateWord, shapeWord};
-ghost use Rattle.wav.specs.Wav.{settle, dataSize, start, sampled, overOthers, nextFrame, frameOver, done, addByte, finishFrame, finishOf};
+ghost use Rattle.wav.specs.Sample.{bytesIn};
+ghost use Rattle.wav.specs.Wav.{freshWav, rawWav, raw16Wav, moved, framed, going, bad, fixed, skip, padded, named, formatSize, formatWord, rateWord, shapeWord};
+ghost use Rattle.wav.specs.Wav.{settle, settleAs, dataSize, start, sampled, overOthers, nextFrame, frameOver, done, addByte, finishFrame, finishOf};
 
 // Why a recording is not read, or not to its end.
 pub enum Fault {
@@ -16,7 +21,7 @@ pub enum Fault {
     Wave,
     // The format chunk is too short.
     FormatSize,
-    // Neither PCM of 16 bits nor floats of 32.
+    // None that is read: PCM of 8, 16, 24 or 32 bits, floats of 32 or 64, G.711.
     Encoding,
     Channels,
     // Outside 8,000 to 48,000.
@@ -65,16 +70,18 @@ pub struct Wav {
     place: Place,
     // How many bytes of it are to come.
     left: u64,
-    // Its last four bytes, the latest on top.
-    word: u32,
+    // Its last eight bytes, the latest on top.
+    word: u64,
     // How many bytes of the format chunk stand behind the words that are read.
     rest: u64,
     // The format chunk's words: encoding and channels, rate, bytes of a frame and bits of a sample.
     format: u32,
     rate: u32,
     shape: u32,
-    // Bytes of a frame, 0 before the format is known, and of a sample.
+    // Bytes of a frame, 0 before the format is known.
     align: u32,
+    // How samples are written, and the bytes of one.
+    encoding: Encoding,
     width: u32,
     // Frames to come; 0 where they run to the end of the file.
     frames: u32,
@@ -123,7 +130,8 @@ impl Wav {
             rate: 0,
             shape: 0,
             align: 0,
-            width: 0,
+            encoding: Encoding::Pcm16,
+            width: 2,
             frames: 0,
         }
     }
@@ -141,7 +149,27 @@ impl Wav {
             rate: 0,
             shape: 0,
             align: 4,
+            encoding: Encoding::Float32,
             width: 4,
+            frames: 0,
+        }
+    }
+
+    // Before the first of 16-bit PCM that has no header.
+    pub fn raw_16() -> Wav
+        ensures { λ r. ⌜ r ≡ raw16Wav ⌝ }
+    {
+        Wav {
+            place: Place::Sample,
+            left: 2,
+            word: 0,
+            rest: 0,
+            format: 0,
+            rate: 0,
+            shape: 0,
+            align: 2,
+            encoding: Encoding::Pcm16,
+            width: 2,
             frames: 0,
         }
     }
@@ -160,7 +188,7 @@ impl Wav {
                 out: Out::Going,
             };
         }
-        self.done(word)
+        self.done(last_four(word), word)
     }
 
     // The end of the file.
@@ -196,6 +224,7 @@ impl Wav {
     fn moved(self, place: Place, left: u64) -> Wav
         ensures { λ r. ⌜ r ≡ moved self place left ⌝ }
     {
+        let encoding = self.encoding;
         Wav {
             place,
             left,
@@ -205,6 +234,7 @@ impl Wav {
             rate: self.rate,
             shape: self.shape,
             align: self.align,
+            encoding,
             width: self.width,
             frames: self.frames,
         }
@@ -313,16 +343,22 @@ impl Wav {
     }
 
     // The format is known: is it one that is read?
-    fn settle(mut self, tag: u32) -> Step
+    fn settle(self, tag: u32) -> Step
         ensures { λ r. ⌜ r ≡ settle self tag ⌝ }
     {
-        let align = self.shape % 65536;
-        let bits = self.shape / 65536;
-        let channels = self.format / 65536;
-        let width = width_of(tag, bits);
-        if width == 0 {
-            return self.bad(Fault::Encoding);
+        let known = encoding_of(tag, self.shape / 65536);
+        match known {
+            Known::As(encoding) => self.settle_as(encoding),
+            Known::Not => self.bad(Fault::Encoding),
         }
+    }
+
+    fn settle_as(self, encoding: Encoding) -> Step
+        ensures { λ r. ⌜ r ≡ settleAs self encoding ⌝ }
+    {
+        let align = self.shape % 65536;
+        let channels = self.format / 65536;
+        let width = bytes_in(encoding);
         if channels == 0 {
             return self.bad(Fault::Channels);
         }
@@ -332,9 +368,29 @@ impl Wav {
         if align != channels * width {
             return self.bad(Fault::Align);
         }
-        self.align = align;
-        self.width = width;
-        self.skip(self.rest)
+        let state = self.framed(align, encoding, width);
+        state.skip(self.rest)
+    }
+
+    // With frames of so many bytes, and samples of this encoding, of so many.
+    fn framed(self, align: u32, encoding: Encoding, width: u32) -> Wav
+        requires { ⌜ width ≡ bytesIn encoding ⌝ }
+        ensures { λ r. ⌜ r ≡ framed self align encoding ⌝ }
+    {
+        let place = self.place;
+        Wav {
+            place,
+            left: self.left,
+            word: self.word,
+            rest: self.rest,
+            format: self.format,
+            rate: self.rate,
+            shape: self.shape,
+            align,
+            encoding,
+            width,
+            frames: self.frames,
+        }
     }
 
     // The data begin.
@@ -366,10 +422,11 @@ impl Wav {
     }
 
     // The first channel's sample is in.
-    fn sampled(self, word: u32) -> Step
+    fn sampled(self, word: u64) -> Step
         ensures { λ r. ⌜ r ≡ sampled self word ⌝ }
     {
-        let x = sample(self.width, word);
+        let encoding = self.encoding;
+        let x = sample(encoding, word);
         let state = self.over_others();
         Step {
             state,
@@ -404,25 +461,25 @@ impl Wav {
         self.moved(Place::Sample, width)
     }
 
-    // The place's last byte is in.
-    fn done(self, word: u32) -> Step
-        ensures { λ r. ⌜ r ≡ done (self .place) self word ⌝ }
+    // The place's last byte is in: the last four are a number, and the last eight.
+    fn done(self, n: u32, word: u64) -> Step
+        ensures { λ r. ⌜ r ≡ done (self .place) self n word ⌝ }
     {
         let place = self.place;
         match place {
-            Place::Riff => self.fixed(word == RIFF, Place::Length, Fault::Riff),
+            Place::Riff => self.fixed(n == RIFF, Place::Length, Fault::Riff),
             Place::Length => self.going(Place::Wave, 4),
-            Place::Wave => self.fixed(word == WAVE, Place::Name, Fault::Wave),
-            Place::Name => self.named(word),
-            Place::FormatSize => self.format_size(word),
-            Place::DataSize => self.data_size(word),
-            Place::OtherSize => self.other_size(word),
-            Place::Format => self.format_word(word),
-            Place::Rate => self.rate_word(word),
+            Place::Wave => self.fixed(n == WAVE, Place::Name, Fault::Wave),
+            Place::Name => self.named(n),
+            Place::FormatSize => self.format_size(n),
+            Place::DataSize => self.data_size(n),
+            Place::OtherSize => self.other_size(n),
+            Place::Format => self.format_word(n),
+            Place::Rate => self.rate_word(n),
             Place::Flow => self.going(Place::Align, 4),
-            Place::Align => self.shape_word(word),
+            Place::Align => self.shape_word(n),
             Place::Extra => self.going(Place::Sub, 4),
-            Place::Sub => self.settle(word % 65536),
+            Place::Sub => self.settle(n % 65536),
             Place::Skip => self.going(Place::Name, 4),
             Place::Sample => self.sampled(word),
             Place::Rest => self.frame_over(),

@@ -1,31 +1,84 @@
 // What the words of a header say.
+use crate::sample::Encoding;
 ghost use mathlib.Core.Path.{_≡_};
-ghost use Rattle.wav.specs.Words.{shifted, widthOf, isEndless};
+ghost use Rattle.wav.specs.Words.{shifted, lastFour, pcmKnown, floatKnown, only8, encodingOf, isEndless};
 
-// The word with one byte more on top.
-pub fn shifted_in(word: u32, b: u8) -> u32
-    ensures { λ r. ⌜ r ≡ shifted word b ⌝ }
-{
-    word / 256 + (b as u32) * 0x100_0000
+// Whether samples of an encoding are read.
+pub enum Known {
+    As(Encoding),
+    Not,
 }
 
-// Bytes of a sample: PCM (1) has 16 bits, IEEE float (3) has 32; 0 for any other.
-pub fn width_of(tag: u32, bits: u32) -> u32
-    ensures { λ r. ⌜ r ≡ widthOf tag bits ⌝ }
+// The last eight bytes with one byte more on top.
+pub fn shifted_in(word: u64, b: u8) -> u64
+    ensures { λ r. ⌜ r ≡ shifted word b ⌝ }
+{
+    word / 256 + (b as u64) * 0x100_0000_0000_0000
+}
+
+// The last four of them.
+pub fn last_four(word: u64) -> u32
+    ensures { λ r. ⌜ r ≡ lastFour word ⌝ }
+{
+    (word / 0x1_0000_0000) as u32
+}
+
+fn pcm_known(bits: u32) -> Known
+    ensures { λ r. ⌜ r ≡ pcmKnown bits ⌝ }
+{
+    if bits == 8 {
+        return Known::As(Encoding::Pcm8);
+    }
+    if bits == 16 {
+        return Known::As(Encoding::Pcm16);
+    }
+    if bits == 24 {
+        return Known::As(Encoding::Pcm24);
+    }
+    if bits == 32 {
+        return Known::As(Encoding::Pcm32);
+    }
+    Known::Not
+}
+
+fn float_known(bits: u32) -> Known
+    ensures { λ r. ⌜ r ≡ floatKnown bits ⌝ }
+{
+    if bits == 32 {
+        return Known::As(Encoding::Float32);
+    }
+    if bits == 64 {
+        return Known::As(Encoding::Float64);
+    }
+    Known::Not
+}
+
+fn only_8(bits: u32, known: Known) -> Known
+    ensures { λ r. ⌜ r ≡ only8 bits known ⌝ }
+{
+    if bits == 8 {
+        return known;
+    }
+    Known::Not
+}
+
+// The encoding of a format's number: 1 is PCM, 3 IEEE float, 6 A-law, 7 µ-law.
+pub fn encoding_of(tag: u32, bits: u32) -> Known
+    ensures { λ r. ⌜ r ≡ encodingOf tag bits ⌝ }
 {
     if tag == 1 {
-        if bits == 16 {
-            return 2;
-        }
-        return 0;
+        return pcm_known(bits);
     }
     if tag == 3 {
-        if bits == 32 {
-            return 4;
-        }
-        return 0;
+        return float_known(bits);
     }
-    0
+    if tag == 6 {
+        return only_8(bits, Known::As(Encoding::ALaw));
+    }
+    if tag == 7 {
+        return only_8(bits, Known::As(Encoding::MuLaw));
+    }
+    Known::Not
 }
 
 // Whether the data run to the end of the file: recorders that can't know the size say 0, or something near 2 or 4 GB.

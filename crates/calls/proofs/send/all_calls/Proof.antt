@@ -4,9 +4,9 @@ use native.Mathlib.Omega.{arith}
 use lib.ListN.{length, take, drop}
 use Rattle.modulation.specs.TxRep.{senderOf}
 use Rattle.calls.specs.Resample.{after}
-use Rattle.calls.specs.Send.{sentFrom}
+use Rattle.calls.specs.Send.{sentFrom, senderAfter}
 use Rattle.calls.specs.SendSteps.{Within}
-use Rattle.calls.proofs.Steps.{send-start, send-step, send-end}
+use Rattle.calls.proofs.Steps.{send-start, send-step, send-end, sender-start, sender-step, sender-end}
 use borrow.Author.Needs.{needs}
 use Rattle.calls.proofs.send.all_calls.Statement.{statement}
 use Rattle.calls.proofs.send.all_calls.Tie as tie
@@ -18,6 +18,7 @@ Inv-loop «data» script samples₀ answers₀ calls place₀ i₀ samples answe
     × (length answers ≡ length answers₀)
     × Within place «data» samples
     × (after i (take (place .written) samples) (take (3 * i) answers) (sentFrom (calls - i) (senderOf (place .state)) (drop (place .read) «data») (drop (2 * i) script) (drop (place .written) samples) (drop (3 * i) answers)) ≡ sentFrom calls (senderOf (place₀ .state)) «data» script samples₀ answers₀)
+    × (senderAfter (calls - i) (senderOf (place .state)) (drop (place .read) «data») (drop (2 * i) script) (drop (place .written) samples) ≡ senderAfter calls (senderOf (place₀ .state)) «data» script samples₀)
 
 abbrev μ-loop : tie.MeasureT-loop
 μ-loop «data» script samples₀ answers₀ calls place₀ i₀ samples answers place i = calls - i
@@ -26,7 +27,7 @@ smaller-requires : tie.Need-smaller-requires Inv-loop μ-loop
 smaller-requires c κs = search needs
 
 loop-holds : tie.Need-loop-holds Inv-loop μ-loop
-loop-holds c = (omega arith, refl, refl, record { sound = c .before .before .before .before .before .pre; read = zero-le; written = zero-le }, send-start _ _ _ _ _ _)
+loop-holds c = (omega arith, refl, refl, record { sound = c .before .before .before .before .before .pre; read = zero-le; written = zero-le }, send-start _ _ _ _ _ _, sender-start _ _ _ _ _)
 
 mul-kind : tie.Need-mul-kind Inv-loop μ-loop
 mul-kind c = search needs
@@ -67,7 +68,15 @@ loop-again c =
     let t = c .before .before .before .before .before .before .before .before .before .loop-test .taken in
     let n = c .before .before .before .before .before .before .before .before .before .before .before .smaller .ensures in
     let o = c .before .before .before .before .one-call .ensures in
-    (omega (arith, t), search needs, search needs, o .1, send-step _ _ _ _ (omega (arith, t, n .2, l .inv .2)) _ _ _ _ _ (o .0) _ _ (omega (arith, t)) ∙ l .inv .4)
+    let script = c .before .before .before .before .before .before .before .before .before .before .before .before .before .before .before .before .args .script .now in
+    let room : 3 * l .i + 3 ≤ length (l .answers) = omega (arith, t, n .2, l .inv .2) in (
+      omega (arith, t),
+      search needs,
+      search needs,
+      o .1,
+      send-step script (l .i) _ _ room _ _ _ _ _ (o .0) _ _ (omega (arith, t)) ∙ l .inv .4,
+      sender-step script (l .i) _ _ room _ _ _ _ _ (o .0) _ _ (omega (arith, t)) ∙ l .inv .5,
+    )
 
 same-length : tie.Need-same-length Inv-loop μ-loop
 same-length c = search needs
@@ -77,10 +86,12 @@ same-length-2 c = search needs
 
 returns : tie.Need-returns Inv-loop μ-loop
 returns c =
-    let l = c .before .loop in
-    let n = c .before .before .smaller in
-    let e : l .i ≡ n .result = omega (arith, l .inv .0, c .loop-test .left) in
-    rw (← n .ensures .0) (sym (send-end (l .i) (n .result) e _ _ _ _ _ (l .place .written) (3 * l .i)) ∙ l .inv .4)
+    let l = c .before .before .loop in
+    let n = c .before .before .before .smaller in
+    let e : l .i ≡ n .result = omega (arith, l .inv .0, c .before .loop-test .left) in (
+      rw (← n .ensures .0) (sym (send-end (l .i) (n .result) e _ _ _ _ _ (l .place .written) (3 * l .i)) ∙ l .inv .4),
+      (rw (← n .ensures .0) (sym (sender-end (l .i) (n .result) e _ _ _ _) ∙ l .inv .5), l .inv .3 .sound),
+    )
 
 pub all-calls-spec : {M : Type 1} → statement M
 all-calls-spec =

@@ -1,28 +1,13 @@
--- What `new` ensures says which of the two cases holds.
-use Rattle.calls.specs.Send.{sendRun}
-use Rattle.calls.proofs.Steps.{rate-accepted, rate-refused}
+-- `send::sent_from_fresh` meets its contract. Assumes nothing.
+use mathlib.Core.Path.{ap, _∙_}
+use Rattle.calls.specs.Send.{Sent}
+use Rattle.calls.proofs.Steps.{sent-run}
 use borrow.Author.Needs.{needs}
 use Rattle.calls.proofs.send.sent_from_fresh.Statement.{statement}
 use Rattle.calls.proofs.send.sent_from_fresh.Tie as tie
 
-role-of-requires : tie.Need-role-of-requires
-role-of-requires c κs = search needs
-
-new-requires : tie.Need-new-requires
-new-requires c κs = search needs
-
-enum-told : tie.Need-enum-told
-enum-told c = search needs
-
-enum-told-2 : tie.Need-enum-told-2
-enum-told-2 c = search needs
-
-all-calls-requires : tie.Need-all-calls-requires
-all-calls-requires c κs = search needs
-
-returns : tie.Need-returns
-unfolding sendRun
-returns c = rw (rate-refused _ _ _ _ (rw (c .enum-told .given .1) at (c .before .before .before .new .ensures .0)))
+sender-from-fresh-requires : tie.Need-sender-from-fresh-requires
+sender-from-fresh-requires c κs = search needs
 
 same-length : tie.Need-same-length
 same-length c = search needs
@@ -30,22 +15,8 @@ same-length c = search needs
 same-length-2 : tie.Need-same-length-2
 same-length-2 c = search needs
 
-returns-2 : tie.Need-returns-2
-unfolding sendRun
-returns-2 c =
-    let a = rate-accepted _ _ _ (rw (c .before .before .before .before .before .before .before .enum-told2 .given .1) at (c .before .before .before .before .before .before .before .before .before .before .new .ensures .0)) in
-    rw (a .0, ← c .before .before .before .before .before .before .before .before .before .before .before .role-of .ensures, ← a .1) (c .before .before .before .before .all-calls .ensures)
+returns : tie.Need-returns
+returns c = ap (λ (x : Sent). x .run) (c .before .before .before .before .sender-from-fresh .ensures .0) ∙ sent-run _ _ _ _ _ _
 
 pub sent-from-fresh-spec : {M : Type 1} → statement M
-sent-from-fresh-spec =
-    tie.close
-    (tie.spec
-    role-of-requires
-    new-requires
-    enum-told
-    enum-told-2
-    all-calls-requires
-    returns
-    same-length
-    same-length-2
-    returns-2)
+sent-from-fresh-spec = tie.close (tie.spec sender-from-fresh-requires same-length same-length-2 returns)

@@ -10,12 +10,12 @@ add-byte-requires c κs = search needs
 one-more-requires : tie.Need-one-more-requires
 one-more-requires c κs = search needs
 
-print-answer-requires : tie.Need-print-answer-requires
-print-answer-requires c κs = search needs
+tell-requires : tie.Need-tell-requires
+tell-requires c κs = search needs
 
 returns : tie.Need-returns
 returns c =
-    taken-end _ _ _ _ (c .before .before .before .before .add-byte .ensures) (c .before .before .if1 .taken) (c .before .one-more .ensures)
+    taken-end _ _ _ _ (c .before .before .before .before .add-byte .ensures) (c .before .before .if1 .taken) (c .before .one-more .ensures) _
 
 returns-2 : tie.Need-returns-2
 returns-2 c =
@@ -24,4 +24,4 @@ returns-2 c =
 pub after-byte-spec : {M : Type 1} → statement M
 after-byte-spec =
     tie.close
-    (tie.spec add-byte-requires one-more-requires print-answer-requires returns returns-2)
+    (tie.spec add-byte-requires one-more-requires tell-requires returns returns-2)

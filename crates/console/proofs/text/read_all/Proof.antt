@@ -1,12 +1,14 @@
--- The measure is the number of turns that are left. Assumes nothing.
-use Rattle.tide.specs.DecoderRep.{Sound}
+-- What each turn reads stands behind what was read before. The measure is the number of turns that are left. Assumes nothing.
+use native.Mathlib.Omega.{arith}
+use Rattle.console.specs.Text.{ReadSome}
+use Rattle.console.proofs.Blocks.{read-none, some-more}
 use borrow.Author.Needs.{needs}
 use Rattle.console.proofs.text.read_all.Statement.{statement}
 use Rattle.console.proofs.text.read_all.Tie as tie
 
 abbrev Inv-loop : tie.InvT-loop
 Inv-loop r₀ turns₀ r turns =
-    Sound (r .text .decoder)
+    ReadSome (r₀ .text) (r .text)
 
 abbrev μ-loop : tie.MeasureT-loop
 μ-loop r₀ turns₀ r turns =
@@ -14,11 +16,11 @@ abbrev μ-loop : tie.MeasureT-loop
 
 loop-holds : tie.Need-loop-holds Inv-loop μ-loop
 loop-holds c =
-    c .pre
+    read-none _ (c .pre) (omega arith)
 
 read-block-requires : tie.Need-read-block-requires Inv-loop μ-loop
 read-block-requires c κs =
-    search needs
+    c .before .before .loop .inv .read .sound
 
 sub-turns : tie.Need-sub-turns Inv-loop μ-loop
 sub-turns c = search needs
@@ -29,11 +31,13 @@ loop-less c =
 
 loop-again : tie.Need-loop-again Inv-loop μ-loop
 loop-again c =
-    search needs
+    some-more _ _ _ (c .before .before .before .loop .inv) (c .read-block .ensures)
 
 returns : tie.Need-returns Inv-loop μ-loop
-returns c =
-    search needs
+returns c = c .before .before .loop .inv
+
+returns-2 : tie.Need-returns-2 Inv-loop μ-loop
+returns-2 c = c .before .loop .inv
 
 pub read-all-spec : {M : Type 1} → statement M
 read-all-spec =
@@ -46,4 +50,5 @@ read-all-spec =
     sub-turns
     loop-less
     loop-again
-    returns)
+    returns
+    returns-2)

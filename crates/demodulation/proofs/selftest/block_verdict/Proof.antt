@@ -6,17 +6,17 @@ use Prim.Native.Nat.{ℕ, zero, suc, _≤_, _<_, _+_, _-_}
 use mathlib.Core.Path.{_≡_, sym, ap, _∙_}
 use native.Mathlib.Omega.{arith}
 use lib.Ieee.{Float}
-use Rattle.demodulation.specs.Carrier.{yesOf, freshDominance, dominanceStep}
+use Rattle.demodulation.specs.Carrier.{Answered, answeredBy, freshDominance, dominanceStep}
 use Rattle.demodulation.proofs.CarrierLaws.{step-says, count-after}
-use Rattle.demodulation.specs.Selftest.{fed, freshBlock, allButOne, blockVerdict, blockSays}
+use Rattle.demodulation.specs.Selftest.{fed, freshBlock, allButOne, blockSays}
 use Rattle.demodulation.specs.declared.carrier.ToneDominance.{ToneDominance}
 use Rattle.demodulation.specs.declared.carrier.Judged.{Judged}
 use Rattle.demodulation.proofs.selftest.block_verdict.Statement.{statement}
 use Rattle.demodulation.proofs.selftest.block_verdict.Tie as tie
 
-one-more : (d : ToneDominance) (x : Float) (n m : ℕ) (j : Judged) → n ≡ suc m → j ≡ dominanceStep d x → fed n x d ≡ fed m x (j .state)
+one-more : (d : ToneDominance) (x : Float) (n m : ℕ) (j : Judged) → n ≡ suc m → answeredBy j ≡ dominanceStep d x → fed n x d ≡ fed m x (j .state)
 unfolding fed
-one-more d x n m j p q = rw (p, q)
+one-more d x n m j p q = rw (p, ap (λ (a : Answered). a .state) q)
 
 none-left : (d : ToneDominance) (x : Float) (n : ℕ) → n ≡ 0 → fed n x d ≡ d
 unfolding fed
@@ -29,7 +29,7 @@ counted (suc n) x d h =
     let e : dominanceStep d x .state .count ≡ d .count + 1 = count-after d x ∙ rw (lt-ltb (d .count + 1) 256 (omega arith)) in
     counted n x (dominanceStep d x .state) (omega arith) ∙ omega arith
 
-ends : (markHz ownMarkHz ownSpaceHz x : Float) → yesOf (blockVerdict markHz ownMarkHz ownSpaceHz x) ≡ blockSays markHz ownMarkHz ownSpaceHz x
+ends : (markHz ownMarkHz ownSpaceHz x : Float) → dominanceStep (allButOne markHz ownMarkHz ownSpaceHz x) x .answer ≡ blockSays markHz ownMarkHz ownSpaceHz x
 unfolding freshDominance
 ends markHz ownMarkHz ownSpaceHz x =
     let d = allButOne markHz ownMarkHz ownSpaceHz x in
@@ -69,10 +69,9 @@ returns : tie.Need-returns Inv-loop μ-loop
 returns c =
     let l = c .before .before .loop in
     let a = c .before .before .before .before .args in
-    let e : c .feed2 .result .verdict ≡ blockVerdict (a .mark-hz) (a .own-mark-hz) (a .own-space-hz) (a .x) =
-    ap (λ (j : Judged). j .verdict) (c .feed2 .ensures)
-    ∙ ap (λ (d : ToneDominance). dominanceStep d (a .x) .verdict) (sym (l .inv .1 ∙ none-left (l .d) (a .x) (255 - l .counter) (omega arith))) in
-    (e, ap yesOf e ∙ ends (a .mark-hz) (a .own-mark-hz) (a .own-space-hz) (a .x))
+    ap (λ (j : Answered). j .answer) (c .feed2 .ensures)
+    ∙ ap (λ (d : ToneDominance). dominanceStep d (a .x) .answer) (sym (l .inv .1 ∙ none-left (l .d) (a .x) (255 - l .counter) (omega arith)))
+    ∙ ends (a .mark-hz) (a .own-mark-hz) (a .own-space-hz) (a .x)
 
 pub block-verdict-spec : {M : Type 1} → statement M
 block-verdict-spec =

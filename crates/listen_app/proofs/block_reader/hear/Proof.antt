@@ -1,10 +1,9 @@
--- From place i on a board hears what it hears from the start on. Assumes nothing.
-use Rattle.board.specs.Plain.{Plain}
-use Rattle.bell103.specs.declared.Role.{Role}
+-- From place i on a host hears what it hears from the start on. Assumes nothing.
+use Rattle.listen_app.specs.Host.{PlainHost}
 use native.Mathlib.Omega.{arith}
 use mathlib.Core.Bool.{true}
 use mathlib.Core.Path.{_≡_, refl, sym, _∙_}
-use Prim.Native.Nat.{ℕ, _≤_, _-_}
+use Prim.Native.Nat.{_≤_, _-_}
 use Rattle.listen_app.specs.Listener.{heardBytes, actedBy, acted}
 use Rattle.listen_app.proofs.Hearing.{next-heard, read-on, byte-at}
 use Rattle.listen_app.specs.BlockReader.{BlockReaderSound, isQuiet}
@@ -17,9 +16,7 @@ use Rattle.listen_app.proofs.block_reader.hear.Tie as tie
 abbrev Inv-loop : tie.InvT-loop
 Inv-loop block₀ input from wav₀ f₀ i₀ block wav f i =
     BlockReaderSound block (f .n) × (from ≤ i) × (i ≤ length input) × (i ≡ from → isQuiet (f .progress) ≡ true)
-    × ((station : ℕ) (role : Role) (board : Plain) (lines : ℕ)
-    → heardBytes station role (acted station role board lines (filled wav f block)) (drop i input)
-    ≡ heardBytes station role (acted station role board lines (filled wav₀ f₀ block₀)) (drop i₀ input))
+    × ((h : PlainHost) → heardBytes (acted h (filled wav f block)) (drop i input) ≡ heardBytes (acted h (filled wav₀ f₀ block₀)) (drop i₀ input))
 
 abbrev μ-loop : tie.MeasureT-loop
 μ-loop block₀ input from wav₀ f₀ i₀ block wav f i = length input - i
@@ -27,7 +24,7 @@ abbrev μ-loop : tie.MeasureT-loop
 loop-holds : tie.Need-loop-holds Inv-loop μ-loop
 loop-holds c =
     let p = c .before .before .pre in
-    (p .0, omega arith, omega (arith, p .1), λ _. refl, λ station role board lines. refl)
+    (p .0, omega arith, omega (arith, p .1), λ _. refl, λ h. refl)
 
 is-quiet-requires : tie.Need-is-quiet-requires Inv-loop μ-loop
 is-quiet-requires c κs = search needs
@@ -59,7 +56,7 @@ loop-again c =
       omega (arith, l .inv .1),
       omega (arith, t),
       λ e. absurd (omega (arith, e, l .inv .1)),
-      λ station role board lines. next-heard station role board lines _ _ _ _ (l .inv .0) t b q ∙ l .inv .4 station role board lines,
+      λ h. next-heard h _ _ _ _ (l .inv .0) t b q ∙ l .inv .4 h,
     )
 
 returns : tie.Need-returns Inv-loop μ-loop

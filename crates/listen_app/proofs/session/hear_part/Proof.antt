@@ -1,7 +1,8 @@
--- From each part on the board hears what it hears from the start on. Assumes nothing.
+-- From each part on the host hears what it hears from the start on. Assumes nothing.
 use native.Mathlib.Omega.{arith}
 use mathlib.Core.Path.{_≡_, refl, ap, _∙_}
-use Rattle.listen_app.specs.Listener.{Listener, listenerOf, heardBytes}
+use Rattle.listen_app.specs.HostRep.{hostOf}
+use Rattle.listen_app.specs.Listener.{Listener, view, heardBytes}
 use Rattle.listen_app.proofs.Hearing.{parts-end}
 use Rattle.listen_app.specs.BlockReader.{BlockReaderSound}
 use Rattle.listen_app.specs.BlockReaderRep.{gathered}
@@ -13,13 +14,12 @@ use Rattle.listen_app.proofs.session.hear_part.Statement.{statement}
 use Rattle.listen_app.proofs.session.hear_part.Tie as tie
 
 abbrev Inv-loop : tie.InvT-loop
-Inv-loop input station role numbered₀ reader₀ block₀ at₀ numbered reader block at =
-    BoardSound (numbered .board) × BlockReaderSound block (reader .n) × (at ≤ length input)
-    × (heardBytes station role (listenerOf numbered (gathered reader block)) (drop at input)
-    ≡ heardBytes station role (listenerOf numbered₀ (gathered reader₀ block₀)) (drop at₀ input))
+Inv-loop input host₀ reader₀ block₀ at₀ host reader block at =
+    BoardSound (host .board) × BlockReaderSound block (reader .n) × (at ≤ length input)
+    × (heardBytes (view (gathered reader block) (hostOf host)) (drop at input) ≡ heardBytes (view (gathered reader₀ block₀) (hostOf host₀)) (drop at₀ input))
 
 abbrev μ-loop : tie.MeasureT-loop
-μ-loop input station role numbered₀ reader₀ block₀ at₀ numbered reader block at = length input - at
+μ-loop input host₀ reader₀ block₀ at₀ host reader block at = length input - at
 
 loop-holds : tie.Need-loop-holds Inv-loop μ-loop
 loop-holds c =
@@ -50,14 +50,14 @@ loop-again c =
       c .act-on .ensures .0,
       h .ensures .sound,
       h .ensures .within,
-      ap (λ (m : Listener). heardBytes (a .station) (a .role) m (drop (h .result .at) (a .input .now))) (c .act-on .ensures .1)
-          ∙ (h .ensures .same (a .station) (a .role) _ _ ∙ l .loop .inv .3),
+      ap (λ (m : Listener). heardBytes m (drop (h .result .at) (a .input .now))) (c .act-on .ensures .1)
+          ∙ (h .ensures .same _ ∙ l .loop .inv .3),
     )
 
 returns : tie.Need-returns Inv-loop μ-loop
 returns c =
     let l = c .before .loop .inv in
-    (record { board = l .0; reader = l .1 }, parts-end _ _ _ _ _ _ (l .2) (c .loop-test .left) (l .3))
+    (record { board = l .0; reader = l .1 }, parts-end _ _ _ _ (l .2) (c .loop-test .left) (l .3))
 
 pub hear-part-spec : {M : Type 1} → statement M
 hear-part-spec =

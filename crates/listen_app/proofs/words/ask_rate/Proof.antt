@@ -13,13 +13,16 @@ returns c = rw (eq-eqb _ _ (c .if1 .taken))
 rate-ok-requires : tie.Need-rate-ok-requires
 rate-ok-requires c κs = search needs
 
+ask-format-requires : tie.Need-ask-format-requires
+ask-format-requires c κs = search needs
+
 returns-2 : tie.Need-returns-2
 unfolding askedRate
-returns-2 c = rw (ne-eqb _ _ (c .before .before .if1 .left), sym (c .before .rate-ok .ensures), c .if2 .taken) refl
+returns-2 c = rw (ne-eqb _ _ (c .before .before .before .if1 .left), sym (c .before .before .rate-ok .ensures), c .before .if2 .taken) (c .ask-format .ensures)
 
 returns-3 : tie.Need-returns-3
 unfolding askedRate
 returns-3 c = rw (ne-eqb _ _ (c .before .before .if1 .left), sym (c .before .rate-ok .ensures), c .if2 .left) refl
 
 pub ask-rate-spec : {M : Type 1} → statement M
-ask-rate-spec = tie.close (tie.spec returns rate-ok-requires returns-2 returns-3)
+ask-rate-spec = tie.close (tie.spec returns rate-ok-requires ask-format-requires returns-2 returns-3)

@@ -1,12 +1,16 @@
 -- What the resampler makes fits the array, and the two steps are the definition's. Assumes nothing.
 use Prim.Native.Nat.{_≤_}
-use mathlib.Core.Path.{refl, sym, _∙_}
+use mathlib.Core.Path.{refl, sym, ap, _∙_}
 use native.Mathlib.Omega.{arith}
 use lib.ListN.{length, take}
 use lib.Seq.{length-take-le}
 use Rattle.resampling.specs.ResampleRep.{stateOf}
 use Rattle.modem.specs.Listener.{heardBy}
 use Rattle.modem.specs.ListenerRep.{demodOf}
+use Rattle.demodulation.specs.Demod.{Demodulator}
+use Rattle.modem.proofs.ErrorLaws.{errors-on}
+use Rattle.modem.proofs.RxLaws.{steps-few}
+use Rattle.modem.proofs.RxCalls.{listener-listens}
 use Rattle.modem.proofs.Resampled.{fits-scratch, steps-fit, all-heard}
 use Rattle.modem.specs.Hear.{resampled}
 use borrow.Author.Needs.{needs}
@@ -55,7 +59,14 @@ returns c =
       rest = h .rest;
       places = h .places;
       accepted = refl;
-      sound = record { resampler = p .sound; to-8000 = p .rate ∙ s .pre .sound .to-8000; demod = h .sound; count = s .pre .end };
+      sound =
+          record {
+            resampler = p .sound;
+            to-8000 = p .rate ∙ s .pre .sound .to-8000;
+            demod = h .sound;
+            count = s .pre .end;
+            errors = errors-on _ _ _ _ _ (s .pre .sound .errors) (ap (λ (x : Demodulator). x .deframer) (g .after)) (steps-few (demodOf (s .args .l)) _ (listener-listens (s .args .l) (s .pre .sound)));
+          };
     }
 
 pub accept-resampled-spec : {M : Type 1} → statement M

@@ -5,6 +5,8 @@ use Rattle.resampling.specs.Resample.{State}
 use Rattle.resampling.specs.ResampleRep.{stateOf}
 use Rattle.modem.specs.Listener.{freshDemod}
 use Rattle.modem.specs.ListenerRep.{demodOf}
+use Rattle.demodulation.specs.Demod.{Demodulator}
+use Rattle.modem.proofs.ErrorLaws.{errors-new}
 use Rattle.modem.proofs.Receiving.{fresh-resampler, fresh-dst}
 use borrow.Author.Needs.{needs}
 use Rattle.modem.proofs.listener.fresh_at.Statement.{statement}
@@ -26,7 +28,7 @@ returns c =
     record {
       demod = rw (st, d .0);
       accepted = refl;
-      sound = record { resampler = n .1; to-8000 = ap (λ (x : State). x .dst) st ∙ fresh-dst (s .args .rate); demod = d .1; count = omega arith };
+      sound = record { resampler = n .1; to-8000 = ap (λ (x : State). x .dst) st ∙ fresh-dst (s .args .rate); demod = d .1; count = omega arith; errors = errors-new _ (s .args .kind) (s .args .role) (ap (λ (x : Demodulator). x .deframer) (d .0)) };
     }
 
 pub fresh-at-spec : {M : Type 1} → statement M

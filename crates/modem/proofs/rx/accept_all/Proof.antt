@@ -1,54 +1,26 @@
--- What was heard has room in the queues, and the parts are the definition's. Assumes nothing.
-use mathlib.Core.Path.{sym}
-use lib.Seq.{length-take-le}
-use Rattle.modem.specs.Rx.{acceptedBy}
-use Rattle.modem.specs.RxRep.{receiverOf}
-use Rattle.modem.proofs.RxCalls.{listener-listens}
-use Rattle.modem.proofs.Receiving.{passes, bytes-fit}
+-- Both ways do what the definition says. Assumes nothing.
+use mathlib.Core.Path.{sym, _∙_}
 use borrow.Author.Needs.{needs}
 use Rattle.modem.proofs.rx.accept_all.Statement.{statement}
 use Rattle.modem.proofs.rx.accept_all.Tie as tie
 
-no-codes-requires : tie.Need-no-codes-requires
-no-codes-requires c κs = search needs
+is-identity-requires : tie.Need-is-identity-requires
+is-identity-requires c κs = search needs
 
-accept-requires : tie.Need-accept-requires
-accept-requires c κs =
-    let s = c .before .before .before .before .before .before in
-    let p = passes _ _ _ (s .pre .1) in
-    record { sound = s .pre .0 .listener; few = p .few; end = p .end; places = c .before .no-codes .ensures }
-
-array-share-prefix-codes : tie.Need-array-share-prefix-codes
-array-share-prefix-codes c = search needs
-
-slice-aggregate-take-in : tie.Need-slice-aggregate-take-in
-slice-aggregate-take-in c = sym (length-take-le _ _ (array-share-prefix-codes (c .before)))
-
-take-in-requires : tie.Need-take-in-requires
-take-in-requires c κs =
-    let s = c .before .before .before .before .before .before .before .before .before in
-    let p = passes _ _ _ (s .pre .1) in
-    let l = s .pre .0 .listener in
-    record {
-      bytes = s .pre .0 .bytes;
-      events = s .pre .0 .events;
-      room = rw (c .before .before .accept .ensures .heard) (bytes-fit _ _ _ (listener-listens (s .args .rx .listener) l) (p .room) (p .few));
-    }
+accept-equal-requires : tie.Need-accept-equal-requires
+accept-equal-requires c κs =
+    let s = c .before .before .before .before in
+    (s .pre .0, s .pre .1, sym (c .before .is-identity .ensures) ∙ c .if1 .taken)
 
 returns : tie.Need-returns
-unfolding receiverOf acceptedBy
-returns c =
-    let t = c .before .before .before .before .before .accept .ensures in
-    let q = c .before .before .take-in .ensures in
-    (rw (t .demod, q .bytes .waits, q .events .waits, t .accepted, t .heard), record { listener = t .sound; bytes = q .bytes .sound; events = q .events .sound })
+returns c = search needs
+
+accept-other-requires : tie.Need-accept-other-requires
+accept-other-requires c κs = search needs
+
+returns-2 : tie.Need-returns-2
+returns-2 c = search needs
 
 pub accept-all-spec : {M : Type 1} → statement M
 accept-all-spec =
-    tie.close
-    (tie.spec
-    no-codes-requires
-    accept-requires
-    array-share-prefix-codes
-    slice-aggregate-take-in
-    take-in-requires
-    returns)
+    tie.close (tie.spec is-identity-requires accept-equal-requires returns accept-other-requires returns-2)

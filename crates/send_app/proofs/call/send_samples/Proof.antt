@@ -1,44 +1,47 @@
+-- Each turn sends a block, until all are sent or one is not written. Assumes nothing.
+use Prim.Native.Nat.{_-_, _≤_, _<_}
+use mathlib.Core.Bool.{false≢true}
 use native.Mathlib.Omega.{arith}
-use Rattle.modulation.specs.TxRep.{TxSound}
 use lib.ListN.{length}
-use Prim.Native.Nat.{_≤_}
+use Rattle.modulation.specs.TxRep.{TxSound}
 use borrow.Author.Needs.{needs}
 use Rattle.send_app.proofs.call.send_samples.Statement.{statement}
 use Rattle.send_app.proofs.call.send_samples.Tie as tie
 
 abbrev Inv-loop : tie.InvT-loop
-Inv-loop text samples s₀ left₀ s left = TxSound (s .tx) × (s .at ≤ length text)
+Inv-loop kind text samples s₀ sent₀ s sent = TxSound (s .tx) × (s .at ≤ length text) × (sent ≤ samples)
 
 abbrev μ-loop : tie.MeasureT-loop
-μ-loop text samples s₀ left₀ s left = left
+μ-loop kind text samples s₀ sent₀ s sent = samples - sent
 
--- src/call.rt:150:5
 loop-holds : tie.Need-loop-holds Inv-loop μ-loop
-loop-holds c = search needs
+loop-holds c = (c .before .pre, omega arith, omega arith)
 
--- src/call.rt:151:13
+sub-block-of : tie.Need-sub-block-of Inv-loop μ-loop
+sub-block-of c = search needs
+
 block-of-requires : tie.Need-block-of-requires Inv-loop μ-loop
 block-of-requires c κs = search needs
 
--- src/call.rt:152:9
 send-block-requires : tie.Need-send-block-requires Inv-loop μ-loop
-send-block-requires c κs = search needs
+send-block-requires c κs = (c .before .before .loop .inv .0, c .before .before .loop .inv .1, c .block-of .ensures .0)
 
--- src/call.rt:153:9
-sub-left : tie.Need-sub-left Inv-loop μ-loop
-sub-left c = search needs
-
--- src/call.rt:150:5
-loop-less : tie.Need-loop-less Inv-loop μ-loop
-loop-less c = omega (arith, c .before .block-of .ensures .1, c .before .block-of .ensures .2 (c .before .before .loop-test .taken), c .before .before .loop-test .taken)
-
--- src/call.rt:150:5
-loop-again : tie.Need-loop-again Inv-loop μ-loop
-loop-again c = search needs
-
--- src/call.rt:145:1
 returns : tie.Need-returns Inv-loop μ-loop
-returns c = search needs
+returns c = (c .before .before .before .before .before .loop .inv .2, λ e. absurd (false≢true e))
+
+add-sent : tie.Need-add-sent Inv-loop μ-loop
+add-sent c = search needs
+
+loop-less : tie.Need-loop-less Inv-loop μ-loop
+loop-less c =
+    let p : 0 < c .before .before .before .before .before .before .before .args .samples - c .before .before .before .before .before .loop .sent = omega (arith, c .before .before .before .before .loop-test .taken) in
+    omega (arith, c .before .before .before .block-of .ensures .1, c .before .before .before .block-of .ensures .2 p, c .before .before .before .before .loop-test .taken)
+
+loop-again : tie.Need-loop-again Inv-loop μ-loop
+loop-again c = (c .before .before .send-block .ensures .0, c .before .before .send-block .ensures .1, omega (arith, c .before .before .before .block-of .ensures .1, c .before .before .before .before .loop-test .taken))
+
+returns-2 : tie.Need-returns-2 Inv-loop μ-loop
+returns-2 c = (c .before .loop .inv .2, λ e. omega (arith, c .before .loop .inv .2, c .loop-test .left))
 
 pub send-samples-spec : {M : Type 1} → statement M
 send-samples-spec =
@@ -47,9 +50,11 @@ send-samples-spec =
     Inv-loop
     μ-loop
     loop-holds
+    sub-block-of
     block-of-requires
     send-block-requires
-    sub-left
+    returns
+    add-sent
     loop-less
     loop-again
-    returns)
+    returns-2)

@@ -1,22 +1,31 @@
+-- The tests pick the case. Assumes nothing.
+use mathlib.Core.Path.{refl, sym, _∙_}
 use Rattle.send_app.specs.Words.{askedRate}
-use mathlib.Core.Path.{refl, sym}
 use borrow.Author.Needs.{needs}
 use Rattle.send_app.proofs.words.ask_rate.Statement.{statement}
 use Rattle.send_app.proofs.words.ask_rate.Tie as tie
 
--- src/words.rt:25:8
 rate-ok-requires : tie.Need-rate-ok-requires
 rate-ok-requires c κs = search needs
 
--- src/words.rt:26:9
 returns : tie.Need-returns
 unfolding askedRate
-returns c = rw (sym (c .before .rate-ok .ensures), c .if1 .taken) refl
+returns c = rw (sym (c .before .rate-ok .ensures) ∙ c .if1 .taken) refl
 
--- src/words.rt:22:1
+enum-known-third : tie.Need-enum-known-third
+enum-known-third c = search needs
+
+enum-told : tie.Need-enum-told
+enum-told c = search needs
+
 returns-2 : tie.Need-returns-2
 unfolding askedRate
-returns-2 c = rw (sym (c .before .rate-ok .ensures), c .if1 .left) refl
+returns-2 c = rw (sym (c .before .before .before .before .rate-ok .ensures) ∙ c .before .before .before .if1 .left, c .before .third .given .1) refl
+
+returns-3 : tie.Need-returns-3
+unfolding askedRate
+returns-3 c = rw (sym (c .before .before .before .rate-ok .ensures) ∙ c .before .before .if1 .left, c .enum-told .given .1) refl
 
 pub ask-rate-spec : {M : Type 1} → statement M
-ask-rate-spec = tie.close (tie.spec rate-ok-requires returns returns-2)
+ask-rate-spec =
+    tie.close (tie.spec rate-ok-requires returns enum-known-third enum-told returns-2 returns-3)

@@ -1,8 +1,4 @@
--- `state::put_resampler` meets its contract: the parts, one behind the other. Assumes nothing.
-use Rattle.snapshot.proofs.StateCalls.{resampler-put}
-use Rattle.resampling.specs.ResampleRep.{stateOf}
-use lib.ListN.{length}
-use mathlib.Core.Path.{_≡_}
+-- `state::put_resampler` meets its contract. Assumes nothing.
 use borrow.Author.Needs.{needs}
 use Rattle.snapshot.proofs.state.put_resampler.Statement.{statement}
 use Rattle.snapshot.proofs.state.put_resampler.Tie as tie
@@ -10,59 +6,14 @@ use Rattle.snapshot.proofs.state.put_resampler.Tie as tie
 resampler-requires : tie.Need-resampler-requires
 resampler-requires c κs = search needs
 
-tap-numbers-requires : tie.Need-tap-numbers-requires
-tap-numbers-requires c κs = search needs
-
-history-numbers-requires : tie.Need-history-numbers-requires
-history-numbers-requires c κs = search needs
-
-window-numbers-requires : tie.Need-window-numbers-requires
-window-numbers-requires c κs = search needs
-
-slice-aggregate-put : tie.Need-slice-aggregate-put
-slice-aggregate-put c = search needs
-
-put-requires : tie.Need-put-requires
-put-requires c κs = search needs
-
-slice-aggregate-put-2 : tie.Need-slice-aggregate-put-2
-slice-aggregate-put-2 c = search needs
-
-put-requires-2 : tie.Need-put-requires-2
-put-requires-2 c κs = search needs
-
-slice-aggregate-put-3 : tie.Need-slice-aggregate-put-3
-slice-aggregate-put-3 c = search needs
-
-put-requires-3 : tie.Need-put-requires-3
-put-requires-3 c κs = search needs
+put-numbers-requires : tie.Need-put-numbers-requires
+put-numbers-requires c κs = search needs
 
 same-length : tie.Need-same-length
 same-length c = search needs
 
 returns : tie.Need-returns
-returns c =
-    let r = c .before .before .before .before .before .before .before .before .before .before .before .before .before .before .before .before .before .before .resampler in
-    let t = c .before .before .before .before .before .before .before .before .before .before .before .before .before .before .before .before .before .tap-numbers in
-    let h = c .before .before .before .before .before .before .before .before .before .before .before .before .before .before .before .before .history-numbers in
-    let w = c .before .before .before .before .before .before .before .before .before .before .before .before .before .before .before .window-numbers in
-    let t-long : length (t .result) ≡ 373 = search needs in
-    let h-long : length (h .result) ≡ 373 = search needs in
-    rw (← r .ensures .0) (resampler-put (stateOf (r .result)) _ _ _ _ _ _ _ (t .ensures) (h .ensures) (w .ensures) t-long h-long (c .before .before .before .before .before .before .before .before .before .before .before .before .put .ensures) (c .before .before .before .before .before .before .before .put2 .ensures) (c .before .before .put3 .ensures))
+returns c = rw (← c .before .before .before .before .resampler .ensures .0) (c .before .before .put-numbers .ensures)
 
 pub put-resampler-spec : {M : Type 1} → statement M
-put-resampler-spec =
-    tie.close
-    (tie.spec
-    resampler-requires
-    tap-numbers-requires
-    history-numbers-requires
-    window-numbers-requires
-    slice-aggregate-put
-    put-requires
-    slice-aggregate-put-2
-    put-requires-2
-    slice-aggregate-put-3
-    put-requires-3
-    same-length
-    returns)
+put-resampler-spec = tie.close (tie.spec resampler-requires put-numbers-requires same-length returns)

@@ -12,6 +12,9 @@ returns : tie.Need-returns
 unfolding pcmOf
 returns c = rw (lt-ltb _ _ (c .before .if1 .taken)) (c .part .ensures)
 
+add-part : tie.Need-add-part
+add-part c = search needs
+
 sub-part : tie.Need-sub-part
 sub-part c = search needs
 
@@ -23,4 +26,4 @@ unfolding pcmOf
 returns-2 c = rw (le-ltb _ _ (c .before .if1 .left), c .part2 .ensures)
 
 pub pcm-spec : {M : Type 1} → statement M
-pcm-spec = tie.close (tie.spec part-requires returns sub-part part-requires-2 returns-2)
+pcm-spec = tie.close (tie.spec part-requires returns add-part sub-part part-requires-2 returns-2)

@@ -1,4 +1,6 @@
 -- Event, timing and bit are each what their function ensures.
+use mathlib.Core.Path.{ap}
+use Rattle.framing.specs.Frame.{Deframed}
 use Rattle.demodulation.specs.Demod.{finished}
 use borrow.Author.Needs.{needs}
 use Rattle.demodulation.proofs.demod.Core.finish.Statement.{statement}
@@ -16,7 +18,13 @@ slice-requires c κs = search needs
 returns : tie.Need-returns
 unfolding finished
 returns c rings =
-    rw (c .before .before .before .before .before .before .slice .ensures, c .before .before .before .before .before .before .before .before .tick .ensures, c .before .before .before .before .before .before .before .before .before .event-of .ensures)
+    let bit = c .before .before .before .before .before .before .slice .ensures in
+    rw (
+      ap (λ (x : Deframed). x .state) bit,
+      ap (λ (x : Deframed). x .bytes) bit,
+      c .before .before .before .before .before .before .before .before .tick .ensures,
+      c .before .before .before .before .before .before .before .before .before .event-of .ensures,
+    )
 
 pub finish-spec : {M : Type 1} → statement M
 finish-spec = tie.close (tie.spec event-of-requires tick-requires slice-requires returns)

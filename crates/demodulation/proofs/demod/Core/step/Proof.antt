@@ -98,7 +98,7 @@ returns-2 c =
     let n = f .before in
     let m = n .before .before .before in
     let w = m .before .before .before .waves .ensures in
-    decodes _ _ _ _ (rw (n .multiply2 .ensures .1, n .multiply2 .ensures .0, m .multiply .ensures .1, m .multiply .ensures .0, w .0, w .1, w .2, w .3) (f .feed .ensures _)) _ _ _ _ _ _
+    decodes _ _ _ _ (rw (n .multiply2 .ensures .1, n .multiply2 .ensures .0, m .multiply .ensures .1, m .multiply .ensures .0, w .0, w .1, w .2, w .3) (f .feed .ensures _)) _ _ _ _ _ (c .finish .result)
     (not-false (f .feed .result .corr .filled) (i .if1 .left)) (tone-end _ _ _ _ _ (t .mark-i) (t .mark-q) (y .roots .ensures .0))
     (tone-end _ _ _ _ _ (t .space-i) (t .space-q) (y .roots .ensures .1)) (o .decide .ensures) (u .update .ensures)
     (c .before .see .ensures) (c .finish .ensures _)

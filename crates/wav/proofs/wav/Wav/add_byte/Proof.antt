@@ -15,12 +15,16 @@ returns : tie.Need-returns
 unfolding addByte
 returns c = rw (lt-ltb _ _ (c .if1 .taken), c .before .shifted-in .ensures)
 
+last-four-requires : tie.Need-last-four-requires
+last-four-requires c κs = search needs
+
 done-requires : tie.Need-done-requires
 done-requires c κs = search needs
 
 returns-2 : tie.Need-returns-2
 unfolding addByte
-returns-2 c = rw (le-ltb _ _ (c .before .if1 .left), ← c .before .before .shifted-in .ensures) (c .done .ensures)
+returns-2 c = rw (le-ltb _ _ (c .before .before .if1 .left), ← c .before .before .before .shifted-in .ensures, ← c .before .last-four .ensures) (c .done .ensures)
 
 pub add-byte-spec : {M : Type 1} → statement M
-add-byte-spec = tie.close (tie.spec shifted-in-requires sub-self returns done-requires returns-2)
+add-byte-spec =
+    tie.close (tie.spec shifted-in-requires sub-self returns last-four-requires done-requires returns-2)

@@ -115,75 +115,75 @@ bad-requires c κs = search needs
 
 returns : tie.Need-returns
 unfolding done
-returns c = done-at _ _ (c .before .enum-told .given .1) (c .fixed .ensures)
+returns c = done-at _ _ _ (c .before .enum-told .given .1) (c .fixed .ensures)
 
 returns-2 : tie.Need-returns-2
 unfolding done
-returns-2 c = done-at _ _ (c .before .enum-told2 .given .1) (c .going .ensures)
+returns-2 c = done-at _ _ _ (c .before .enum-told2 .given .1) (c .going .ensures)
 
 returns-3 : tie.Need-returns-3
 unfolding done
-returns-3 c = done-at _ _ (c .before .enum-told3 .given .1) (c .fixed2 .ensures)
+returns-3 c = done-at _ _ _ (c .before .enum-told3 .given .1) (c .fixed2 .ensures)
 
 returns-4 : tie.Need-returns-4
 unfolding done
-returns-4 c = done-at _ _ (c .before .enum-told4 .given .1) (c .named .ensures)
+returns-4 c = done-at _ _ _ (c .before .enum-told4 .given .1) (c .named .ensures)
 
 returns-5 : tie.Need-returns-5
 unfolding done
-returns-5 c = done-at _ _ (c .before .enum-told5 .given .1) (c .format-size .ensures)
+returns-5 c = done-at _ _ _ (c .before .enum-told5 .given .1) (c .format-size .ensures)
 
 returns-6 : tie.Need-returns-6
 unfolding done
-returns-6 c = done-at _ _ (c .before .enum-told6 .given .1) (c .data-size .ensures)
+returns-6 c = done-at _ _ _ (c .before .enum-told6 .given .1) (c .data-size .ensures)
 
 returns-7 : tie.Need-returns-7
 unfolding done
-returns-7 c = done-at _ _ (c .before .enum-told7 .given .1) (c .other-size .ensures)
+returns-7 c = done-at _ _ _ (c .before .enum-told7 .given .1) (c .other-size .ensures)
 
 returns-8 : tie.Need-returns-8
 unfolding done
-returns-8 c = done-at _ _ (c .before .enum-told8 .given .1) (c .format-word .ensures)
+returns-8 c = done-at _ _ _ (c .before .enum-told8 .given .1) (c .format-word .ensures)
 
 returns-9 : tie.Need-returns-9
 unfolding done
-returns-9 c = done-at _ _ (c .before .enum-told9 .given .1) (c .rate-word .ensures)
+returns-9 c = done-at _ _ _ (c .before .enum-told9 .given .1) (c .rate-word .ensures)
 
 returns-10 : tie.Need-returns-10
 unfolding done
-returns-10 c = done-at _ _ (c .before .enum-told10 .given .1) (c .going2 .ensures)
+returns-10 c = done-at _ _ _ (c .before .enum-told10 .given .1) (c .going2 .ensures)
 
 returns-11 : tie.Need-returns-11
 unfolding done
-returns-11 c = done-at _ _ (c .before .enum-told11 .given .1) (c .shape-word .ensures)
+returns-11 c = done-at _ _ _ (c .before .enum-told11 .given .1) (c .shape-word .ensures)
 
 returns-12 : tie.Need-returns-12
 unfolding done
-returns-12 c = done-at _ _ (c .before .enum-told12 .given .1) (c .going3 .ensures)
+returns-12 c = done-at _ _ _ (c .before .enum-told12 .given .1) (c .going3 .ensures)
 
 returns-13 : tie.Need-returns-13
 unfolding done
-returns-13 c = done-at _ _ (c .before .enum-told13 .given .1) (c .settle .ensures)
+returns-13 c = done-at _ _ _ (c .before .enum-told13 .given .1) (c .settle .ensures)
 
 returns-14 : tie.Need-returns-14
 unfolding done
-returns-14 c = done-at _ _ (c .before .enum-told14 .given .1) (c .going4 .ensures)
+returns-14 c = done-at _ _ _ (c .before .enum-told14 .given .1) (c .going4 .ensures)
 
 returns-15 : tie.Need-returns-15
 unfolding done
-returns-15 c = done-at _ _ (c .before .enum-told15 .given .1) (c .sampled .ensures)
+returns-15 c = done-at _ _ _ (c .before .enum-told15 .given .1) (c .sampled .ensures)
 
 returns-16 : tie.Need-returns-16
 unfolding done
-returns-16 c = done-at _ _ (c .before .enum-told16 .given .1) (c .frame-over .ensures)
+returns-16 c = done-at _ _ _ (c .before .enum-told16 .given .1) (c .frame-over .ensures)
 
 returns-17 : tie.Need-returns-17
 unfolding done
-returns-17 c = done-at _ _ (c .before .enum-told17 .given .1) (c .going5 .ensures)
+returns-17 c = done-at _ _ _ (c .before .enum-told17 .given .1) (c .going5 .ensures)
 
 returns-18 : tie.Need-returns-18
 unfolding done
-returns-18 c = done-at _ _ (c .before .before .place .given .1) (c .bad .ensures)
+returns-18 c = done-at _ _ _ (c .before .before .place .given .1) (c .bad .ensures)
 
 pub done-spec : {M : Type 1} → statement M
 done-spec =

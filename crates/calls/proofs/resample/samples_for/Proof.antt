@@ -1,0 +1,14 @@
+-- `resample::samples_for` meets its contract. Assumes nothing.
+use borrow.Author.Tests.{eq-eqb, ne-eqb}
+use borrow.Author.Needs.{needs}
+use Rattle.calls.proofs.resample.samples_for.Statement.{statement}
+use Rattle.calls.proofs.resample.samples_for.Tie as tie
+
+returns : tie.Need-returns
+returns c = rw (eq-eqb _ _ (c .if1 .taken))
+
+returns-2 : tie.Need-returns-2
+returns-2 c = rw (ne-eqb _ _ (c .if1 .left))
+
+pub samples-for-spec : {M : Type 1} → statement M
+samples-for-spec = tie.close (tie.spec returns returns-2)

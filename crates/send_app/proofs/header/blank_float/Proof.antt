@@ -1,0 +1,12 @@
+-- The bytes of the string are the definition's. Assumes nothing.
+use mathlib.Core.Path.{refl}
+use Rattle.wav.specs.Recording.{header, opening, formatChunk, dataHead, four, two, pad, chunkBytes}
+use Rattle.send_app.proofs.header.blank_float.Statement.{statement}
+use Rattle.send_app.proofs.header.blank_float.Tie as tie
+
+returns : tie.Need-returns
+unfolding header opening formatChunk dataHead four two pad chunkBytes
+returns c = refl
+
+pub blank-float-spec : {M : Type 1} → statement M
+blank-float-spec = tie.close (tie.spec returns)
