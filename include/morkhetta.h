@@ -337,6 +337,43 @@ size_t morkhetta_listen(
     uint64_t *shown, size_t shown_len
 );
 
+/* Settings that outlive a power switch: a store of lines in the first 256 bytes
+ * of a buffer, or in all of a shorter one. A line has version 1, rate, station
+ * and role as fourteen uppercase hexadecimal digits with a check byte, and ends
+ * with 0A. Bytes behind the last 0A, or all where there is none, are unused: an
+ * erased page, 256 bytes FF, is an empty store.
+ *
+ * The settings of the last good line. They go to the front of `settings`, four
+ * numbers, if there is room for four: rate, station, role (0 originates, 1
+ * answers), and how many lines of an unknown version were passed over. Damaged
+ * lines are passed over too. Returns 0; or 40 where no line is good, and then
+ * `settings` is as it was.
+ */
+uint32_t morkhetta_settings_read(
+    const uint8_t *buffer, size_t buffer_len,
+    uint64_t *settings, size_t settings_len
+);
+
+/* Writes one line of these settings at the first unused byte; every other byte
+ * of the buffer stays as it was. Role 0 originates, any other number answers.
+ * Returns 0; or, with nothing written, the first of these that applies:
+ *
+ *    1  a rate outside 8,000 to 48,000
+ *    2  station 0
+ *   41  fewer than 15 bytes are unused
+ *
+ * The function stores front to back, the 0A last: a buffer with only the first
+ * bytes of the line reads as before. That is the order of its stores; a host
+ * whose buffer is a copy of a page of flash brings the fifteen bytes there in
+ * the same order.
+ */
+uint32_t morkhetta_settings_write(
+    uint8_t *buffer, size_t buffer_len,
+    uint32_t rate,
+    uint16_t station,
+    uint32_t role
+);
+
 #ifdef __cplusplus
 }
 #endif

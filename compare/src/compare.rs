@@ -13,6 +13,7 @@ use crate::frames::{frame_bytes, State};
 use crate::layout::*;
 use crate::random::Random;
 use crate::scenes::KINDS;
+use crate::settings;
 use crate::shrink::{shrink, Case};
 use crate::side::{ORIGINAL, PORT};
 use crate::tally::{SentTally, Tally};
@@ -66,7 +67,7 @@ pub fn run(options: &Options) -> ExitCode {
         println!("    {reason}: {lines} lines");
     }
     let start = Instant::now();
-    let parts: [(&str, Part); 13] = [
+    let parts: [(&str, Part); 14] = [
         ("refused rates", refused_rates),
         ("refused boards", refused_boards),
         ("frames", frames),
@@ -80,6 +81,7 @@ pub fn run(options: &Options) -> ExitCode {
         ("sender", sender_cases),
         ("from sender to receiver", loops),
         ("board", board_cases),
+        ("settings", |o| settings::compare(o.seed, o.cases.div_ceil(26)).map_err(plain)),
     ];
     for (name, part) in parts {
         if options.only.is_some() && name != "receiver" {

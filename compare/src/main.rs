@@ -34,6 +34,7 @@ mod render;
 mod replay;
 mod rooms;
 mod scenes;
+mod settings;
 mod shrink;
 mod side;
 mod signal;

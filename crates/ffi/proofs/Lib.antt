@@ -1,2 +1,3 @@
 -- Laws that more than one proof of `ffi` cites.
 pub mod Showing
+pub mod Laying

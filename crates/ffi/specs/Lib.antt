@@ -1,2 +1,3 @@
 -- What the functions exported to C give, beside what `calls` and `snapshot` say.
 pub mod Listen
+pub mod Settings

@@ -5,3 +5,4 @@ pub mod listen;
 pub mod receive;
 pub mod resample;
 pub mod send;
+pub mod settings;

@@ -21,6 +21,8 @@ pub enum Refusal {
     OutOfSamples,
     BytesWait,
     BitsWait,
+    NoSettings,
+    StoreFull,
 }
 
 impl Refusal {
@@ -39,6 +41,8 @@ impl Refusal {
             Refusal::OutOfSamples => 31,
             Refusal::BytesWait => 32,
             Refusal::BitsWait => 33,
+            Refusal::NoSettings => 40,
+            Refusal::StoreFull => 41,
         }
     }
 }
