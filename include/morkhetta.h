@@ -30,13 +30,15 @@
  * The receiver runs a script of three numbers a call (a last one or two that
  * make no whole call are passed over): the samples in the write, then at most
  * how many bytes to read and how many events to take. Each call is answered by
- * five numbers:
+ * six numbers:
  *
  *   the number of the write's refusal, 0 where it is accepted
  *   bytes read
  *   events taken
  *   carrier: 1 or 0
  *   framing errors since fresh
+ *   bad stops in this write alone (a space where a frame's stop bit should be),
+ *     0 where it is refused
  *
  * A write is refused by the first of these that applies:
  *
@@ -113,7 +115,7 @@ size_t morkhetta_resampler_state(
 
 /* A fresh receiver at the device rate `rate` and for the role 0 (the end that
  * dials) or any other number (the end that picks up), and the calls of the
- * script, as long as the answers have room for five more numbers. Returns the
+ * script, as long as the answers have room for six more numbers. Returns the
  * number of calls run. A rate outside 8,000 to 48,000 runs none: the function
  * returns 0 and writes nothing.
  *
@@ -254,7 +256,8 @@ size_t morkhetta_frame_bytes(
  * far, are taken modulo 256; errors, the framing errors so far. Each bit is
  * answered by six numbers:
  *
- *   1 and the byte where the bit yielded one, else 0 and 0
+ *   1 and the byte where the bit yielded one; 2 and 0 where it is a bad stop, a
+ *     space where the stop bit should be; 0 and 0 where more bits are to come
  *   in a frame, 1 or 0; bit_count; acc; errors: the state behind the bit
  *
  * Returns the number of bits pushed: all, as long as the answers have room for
@@ -279,14 +282,14 @@ uint32_t morkhetta_board_refusal(uint32_t rate, uint16_t station);
  * originates, any other number answers: the board listens on the other role's
  * tones.
  *
- * Each write is answered by four numbers, in the order of the writes:
+ * Each write is answered by five numbers, in the order of the writes:
  *
  *   - the number of the refusal, 0 where the write is accepted:
  *      3  more than 1,024 samples
  *      4  a sample that is not finite, or beyond 1 or -1
  *     31  more than 4,294,967,296 samples would have been accepted
  *     The first that applies is given. A refused write changes nothing, and its
- *     other three numbers are 0; its samples are passed over.
+ *     other four numbers are 0; its samples are passed over.
  *   - the number of bytes heard in this write;
  *   - the number of lines that ended in it;
  *   - the answer of the last of these lines, 0 also where none ended:
@@ -305,9 +308,11 @@ uint32_t morkhetta_board_refusal(uint32_t rate, uint16_t station);
  *     34  it is good, but its water minute is not greater than that of the
  *         reading
  *     The first that applies is given.
+ *   - the number of bad stops in this write: frames whose stop bit was a space,
+ *     which are no bytes.
  *
  * The function returns the number of writes that it ran: one for each length, as
- * long as the answers have room for four more numbers. Elements of the answers
+ * long as the answers have room for five more numbers. Elements of the answers
  * behind what was written are as they were.
  *
  * What the board shows after the writes goes to the front of `shown`, fifteen

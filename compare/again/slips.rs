@@ -1,11 +1,11 @@
 // Slips that a porter makes, document 01's and others, as edits of the second
-// copy of the original. The comparison must find each one: `slips.sh` runs
-// them all. So it is known that the signals reach the place in question, and
+// copy of the original, or of what stands before it (oracle.rs and judge.rs of
+// the comparison). The comparison must find each one: `slips.sh` runs them all. So it is known that the signals reach the place in question, and
 // that a difference there is seen.
 
 use crate::copy::Slip;
 
-pub const SLIPS: [Slip; 37] = [
+pub const SLIPS: [Slip; 40] = [
     Slip {
         name: "residue-wrapped",
         file: "rx.rs",
@@ -101,6 +101,24 @@ pub const SLIPS: [Slip; 37] = [
         file: "frame.rs",
         old: "            self.errors += 1;\n",
         new: "            self.errors += 1;\n            self.in_frame = true; self.bit_count = 0; self.acc = 0;\n",
+    },
+    Slip {
+        name: "bad-stop-read-as-waiting",
+        file: "oracle.rs",
+        old: "None if deframer.errors > before => BAD_STOP,",
+        new: "None if deframer.errors > before => WAITING,",
+    },
+    Slip {
+        name: "bad-stops-since-fresh",
+        file: "judge.rs",
+        old: "answer[4] = (receiver.rx.framing_errors() - before) as u64;",
+        new: "answer[4] = receiver.rx.framing_errors() as u64; let _ = before;",
+    },
+    Slip {
+        name: "bad-stops-told-by-a-refused-write",
+        file: "oracle.rs",
+        old: "answer[5] = stops as u64;",
+        new: "answer[5] = stops as u64 + u64::from(answer[0] != 0);",
     },
     Slip {
         name: "highest-bit-first",

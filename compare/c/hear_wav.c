@@ -16,7 +16,7 @@
 
 #include "morkhetta.h"
 
-enum { BLOCK = 1024, ANSWERS = 4, SHOWN = 15, COUNTS = 12 };
+enum { BLOCK = 1024, ANSWERS = 5, SHOWN = 15, COUNTS = 12 };
 
 struct recording {
     uint32_t rate;

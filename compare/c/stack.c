@@ -17,7 +17,7 @@ static float samples[SAMPLES];
 static double wide[SAMPLES], output[8 * SAMPLES], state[20000];
 static uint8_t data[4096], bytes[4096], events[4096];
 static uint32_t lengths[CALLS], script[3 * CALLS], resampling[2 * CALLS];
-static uint64_t sending[2 * CALLS], answers[5 * CALLS], shown[64];
+static uint64_t sending[2 * CALLS], answers[6 * CALLS], shown[64];
 
 static void *nothing(void *unused)
 {
@@ -33,8 +33,8 @@ static void *resample(void *unused)
 
 static void *receive(void *unused)
 {
-    morkhetta_receive(48000, 0, samples, SAMPLES, script, 3 * CALLS, bytes, 4096, events, 4096, answers, 5 * CALLS);
-    morkhetta_receive(8000, 1, samples, SAMPLES, script, 3 * CALLS, bytes, 4096, events, 4096, answers, 5 * CALLS);
+    morkhetta_receive(48000, 0, samples, SAMPLES, script, 3 * CALLS, bytes, 4096, events, 4096, answers, 6 * CALLS);
+    morkhetta_receive(8000, 1, samples, SAMPLES, script, 3 * CALLS, bytes, 4096, events, 4096, answers, 6 * CALLS);
     return unused;
 }
 
@@ -56,7 +56,7 @@ static void *resampler_state(void *unused)
 static void *deframe(void *unused)
 {
     morkhetta_frame_bytes(data, 100, bytes, 1000);
-    morkhetta_deframe(0, 0, 0, 0, bytes, 50, answers, 5 * CALLS);
+    morkhetta_deframe(0, 0, 0, 0, bytes, 50, answers, 6 * CALLS);
     return unused;
 }
 
@@ -78,8 +78,8 @@ static void *sender_state(void *unused)
 
 static void *hear(void *unused)
 {
-    morkhetta_listen(48000, 7, 0, samples, SAMPLES, lengths, CALLS, answers, 4 * CALLS, shown, 64);
-    morkhetta_listen(8000, 7, 1, samples, SAMPLES, lengths, CALLS, answers, 4 * CALLS, shown, 64);
+    morkhetta_listen(48000, 7, 0, samples, SAMPLES, lengths, CALLS, answers, 5 * CALLS, shown, 64);
+    morkhetta_listen(8000, 7, 1, samples, SAMPLES, lengths, CALLS, answers, 5 * CALLS, shown, 64);
     return unused;
 }
 

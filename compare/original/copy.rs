@@ -105,7 +105,7 @@ fn is_private_field(line: &str) -> bool {
     name.chars().all(|c| c.is_ascii_lowercase() || c.is_ascii_digit() || c == '_')
 }
 
-fn apply(slip: &Slip, text: &str) -> String {
+pub fn apply(slip: &Slip, text: &str) -> String {
     assert_eq!(
         text.matches(slip.old).count(),
         1,
@@ -116,10 +116,10 @@ fn apply(slip: &Slip, text: &str) -> String {
     text.replace(slip.old, slip.new)
 }
 
-fn write(path: &Path, text: &str) {
+pub fn write(path: &Path, text: &str) {
     fs::write(path, text).unwrap_or_else(|e| panic!("{}: {e}", path.display()));
 }
 
-fn env(name: &str) -> String {
+pub fn env(name: &str) -> String {
     std::env::var(name).unwrap_or_else(|e| panic!("{name}: {e}"))
 }

@@ -34,15 +34,16 @@ struct Listened {
     shown: Vec<u64>,
 }
 
-/// What the cases brought about: one place for each line answer, then bytes
-/// and refused writes.
+/// What the cases brought about: one place for each line answer, then writes,
+/// bytes, bad stops, and lists of writes.
 #[derive(Default)]
 pub struct Seen {
     pub answers: [u64; COUNTS],
     pub writes: usize,
     pub refused: usize,
     pub bytes: u64,
-    pub stops: usize,
+    pub bad_stops: u64,
+    pub lists: usize,
     /// Cases that were compared after every write.
     pub every: usize,
 }
@@ -134,12 +135,12 @@ impl BoardCase {
         let told = whole.answers.chunks_exact(JUDGED).take(whole.writes);
         let every = self.samples.len() * whole.writes < EVERY_WRITE;
         let ends = told.clone().enumerate().filter(|(_, a)| every || a[2] > 0);
-        let mut stops: Vec<usize> = ends.map(|(i, _)| i + 1).collect();
-        stops.extend([0, 1.min(self.lengths.len()), self.lengths.len()]);
+        let mut lists: Vec<usize> = ends.map(|(i, _)| i + 1).collect();
+        lists.extend([0, 1.min(self.lengths.len()), self.lengths.len()]);
         seen.every += usize::from(every);
-        for writes in stops {
+        for writes in lists {
             let (a, b) = (self.run(&ORIGINAL, writes), self.run(&PORT, writes));
-            seen.stops += 1;
+            seen.lists += 1;
             if a != b {
                 return Err(format!(
                     "rate {}, station {}, role {}, {writes} writes: {} from the original, {} from the port",
@@ -149,7 +150,8 @@ impl BoardCase {
         }
         seen.writes += whole.writes;
         seen.refused += told.clone().filter(|a| a[0] != 0).count();
-        seen.bytes += told.map(|a| a[1]).sum::<u64>();
+        seen.bytes += told.clone().map(|a| a[1]).sum::<u64>();
+        seen.bad_stops += told.map(|a| a[4]).sum::<u64>();
         if whole.writes > 0 && self.shown >= SHOWN {
             seen.answers.copy_from_slice(&whole.shown[3..SHOWN]);
         }
@@ -165,7 +167,8 @@ impl Seen {
             all.writes += case.writes;
             all.refused += case.refused;
             all.bytes += case.bytes;
-            all.stops += case.stops;
+            all.bad_stops += case.bad_stops;
+            all.lists += case.lists;
             all.every += case.every;
         }
         all

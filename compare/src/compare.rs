@@ -375,16 +375,17 @@ fn board_cases(options: &Options) -> Result<String, Found> {
     })?;
     let seen = Seen::sum(&seen);
     println!(
-        "    {} writes, {} refused; {} bytes; lines answered 0, 11 to 20, 34: {:?}",
-        seen.writes, seen.refused, seen.bytes, seen.answers
+        "    {} writes, {} refused; {} bytes, {} bad stops; lines answered 0, 11 to 20, 34: {:?}",
+        seen.writes, seen.refused, seen.bytes, seen.bad_stops, seen.answers
     );
     let every_answer = seen.answers.iter().all(|&n| n > 0);
     reached(options, &[("a refused write", seen.refused > 0), ("an answer", every_answer)])?;
+    reached(options, &[("a board's bad stop", seen.bad_stops > 0)])?;
     Ok(format!(
         "{} cases, {} of them after every write, {} lists of writes, 0 differences",
         cases + 1,
         seen.every,
-        seen.stops
+        seen.lists
     ))
 }
 

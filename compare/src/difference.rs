@@ -53,7 +53,7 @@ fn place_name(parts: &[(&str, usize)], at: usize) -> String {
 
 pub fn of_heard(a: &Heard, b: &Heard) -> Difference {
     let names: [&str; HEARD] =
-        ["answer", "bytes read", "events drained", "carrier", "framing errors"];
+        ["answer", "bytes read", "events drained", "carrier", "framing errors", "bad stops"];
     differ("calls run", &a.calls, &b.calls)
         .or_else(|| in_answers("call", &names, &a.answers, &b.answers))
         .or_else(|| in_list("byte", &a.bytes, &b.bytes))

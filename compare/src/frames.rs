@@ -91,3 +91,39 @@ impl State {
         self.check(&bits)
     }
 }
+
+#[cfg(test)]
+mod tests {
+    use super::*;
+
+    /// The kind, the byte, whether in a frame, and the errors behind each bit.
+    fn pushed(state: State, bits: &[u8]) -> Vec<[u64; 4]> {
+        let (_, answers) = state.run(&ORIGINAL, bits);
+        answers.chunks_exact(PUSHED).map(|a| [a[0], a[1], a[2], a[5]]).collect()
+    }
+
+    /// "Nine spaces then a space: one error, idle." The step before it waits, and
+    /// the bad stop starts nothing: a space behind it does.
+    #[test]
+    fn a_bad_stop_is_told_from_waiting() {
+        let answers = pushed(State::IDLE, &[0; 11]);
+        assert!(answers[..9].iter().all(|a| *a == [WAITING, 0, 1, 0]));
+        assert_eq!(answers[9], [BAD_STOP, 0, 0, 1]);
+        assert_eq!(answers[10], [WAITING, 0, 1, 1]);
+    }
+
+    #[test]
+    fn a_byte_is_told_where_the_stop_is_a_mark() {
+        let answers = pushed(State::IDLE, &ten_bits(0x41).map(u8::from));
+        assert!(answers[..9].iter().all(|a| a[0] == WAITING));
+        assert_eq!(answers[9], [BYTE, 0x41, 0, 0]);
+    }
+
+    /// "The error count holds at 4,294,967,295": the stop is bad all the same.
+    #[test]
+    fn a_bad_stop_is_told_where_the_count_holds() {
+        let full = State([1, 8, 0x41, u32::MAX]);
+        assert_eq!(pushed(full, &[0]), [[BAD_STOP, 0, 0, u64::from(u32::MAX)]]);
+        assert_eq!(pushed(full, &[1]), [[BYTE, 0x41, 0, u64::from(u32::MAX)]]);
+    }
+}

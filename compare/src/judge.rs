@@ -125,8 +125,10 @@ pub fn listen(
         let block = part(samples, read, length);
         read += block.len();
         answer.fill(0);
+        let before = receiver.rx.framing_errors();
         answer[0] = receiver.write(block);
         if answer[0] == 0 {
+            answer[4] = (receiver.rx.framing_errors() - before) as u64;
             let mut bytes = [0; MOST_HEARD];
             let heard = receiver.rx.read(&mut bytes);
             answer[1] = heard as u64;
@@ -148,4 +150,64 @@ pub fn listen(
         shown[3..SHOWN].copy_from_slice(&judge.counts);
     }
     writes
+}
+
+#[cfg(test)]
+mod tests {
+    use super::*;
+    use crate::signal::{Modulation, Tape, Tones, Wave};
+
+    pub fn clear(role: u32) -> Modulation {
+        let tones = Tones::heard_by(role);
+        let (mark, space) = (tones.mark, tones.space);
+        Modulation { mark, space, level: 0.4, offset: 0.0, wave: Wave::Sine }
+    }
+
+    /// Each write's answer, and what is shown, of a board for station 7.
+    fn heard(samples: &[f32], block: u32) -> (Vec<Vec<u64>>, Vec<u64>) {
+        let lengths = vec![block; samples.len().div_ceil(block as usize)];
+        let (mut answers, mut shown) = (vec![9; JUDGED * lengths.len()], vec![9; SHOWN]);
+        let writes = listen(8_000, 7, ANSWER, samples, &lengths, &mut answers, &mut shown);
+        assert_eq!(writes, lengths.len());
+        (answers.chunks_exact(JUDGED).map(<[u64]>::to_vec).collect(), shown)
+    }
+
+    fn sum(answers: &[Vec<u64>], number: usize) -> u64 {
+        answers.iter().map(|answer| answer[number]).sum()
+    }
+
+    /// 45 spaces are four times a start, eight data bits and a bad stop, and then
+    /// the first five bits of a byte that idle mark ends: F0. No write of less
+    /// than ten bits has two of them, and each is told once.
+    #[test]
+    fn bad_stops_are_those_of_the_write() {
+        let mut tape = Tape::new(8_000);
+        tape.preamble(clear(ANSWER));
+        tape.bits(clear(ANSWER), &[false; 45]);
+        tape.idle(clear(ANSWER), 12);
+        tape.bytes(clear(ANSWER), b"A");
+        tape.idle(clear(ANSWER), 12);
+        let samples = tape.finish();
+        for block in [1, 64, 250] {
+            let (answers, _) = heard(&samples, block);
+            assert_eq!((sum(&answers, 1), sum(&answers, 4)), (4, 4), "UU, F0 and A");
+            assert!(answers.iter().all(|answer| answer[4] <= 1));
+        }
+        let (answers, _) = heard(&samples, 1_024);
+        assert_eq!(sum(&answers, 4), 4);
+        assert!(answers.iter().any(|answer| answer[4] > 1));
+    }
+
+    #[test]
+    fn a_refused_write_has_no_bad_stop() {
+        let mut tape = Tape::new(8_000);
+        tape.preamble(clear(ANSWER));
+        tape.bits(clear(ANSWER), &[false; 45]);
+        let mut samples = tape.finish();
+        let at = samples.len() - 400;
+        samples[at] = 1.5;
+        let (answers, _) = heard(&samples, 250);
+        assert_eq!(answers[at / 250], [4, 0, 0, 0, 0]);
+        assert!(sum(&answers, 4) > 0);
+    }
 }

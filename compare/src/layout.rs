@@ -19,13 +19,14 @@ pub const PROCESS: u32 = 0;
 // then at most how many bytes to read and how many events to drain.
 pub const CALL: usize = 3;
 
-// A receiver's answers are five numbers for each call: 0 or the number of the
-// refusal, bytes read, events drained, carrier (0 or 1), framing errors.
-pub const HEARD: usize = 5;
+// A receiver's answers are six numbers for each call: 0 or the number of the
+// refusal, bytes read, events drained, carrier (0 or 1), framing errors since
+// fresh, bad stops of this write.
+pub const HEARD: usize = 6;
 
-// A board's answers are four numbers for each write: 0 or the number of the
-// refusal, bytes heard, lines ended, the last line's answer.
-pub const JUDGED: usize = 4;
+// A board's answers are five numbers for each write: 0 or the number of the
+// refusal, bytes heard, lines ended, the last line's answer, bad stops.
+pub const JUDGED: usize = 5;
 
 /// A board has a count for each line answer: 0, 11 to 20, 34.
 pub const COUNTS: usize = 12;
@@ -56,10 +57,16 @@ pub const SENT: usize = 3;
 /// The bits of a byte's frame: 1 for mark, 0 for space.
 pub const FRAME: usize = 10;
 
-// A deframer's answers are six numbers for each bit: 1 and the byte where the
-// bit yielded one, else 0 and 0; then its state behind the bit: in a frame (0 or
-// 1), bits so far, byte so far, errors.
+// A deframer's answers are six numbers for each bit: one of the kinds below, and
+// the byte where the bit yielded one, else 0; then its state behind the bit: in a
+// frame (0 or 1), bits so far, byte so far, errors.
 pub const PUSHED: usize = 6;
+/// Neither of the other two.
+pub const WAITING: u64 = 0;
+/// The bit yielded a byte.
+pub const BYTE: u64 = 1;
+/// A space in stop position.
+pub const BAD_STOP: u64 = 2;
 
 /// Places of a receiver's filter, used in full at 48,000.
 pub const TAPS: usize = 373;

@@ -84,11 +84,18 @@ pub fn deframe(
     };
     let mut pushed = 0;
     for (&bit, answer) in bits.iter().zip(answers.chunks_exact_mut(PUSHED)) {
+        let before = deframer.errors;
         let byte = deframer.push_bit(bit != 0);
+        // The Rust says no byte for both; its error count tells them apart.
+        let kind = match byte {
+            Some(_) => BYTE,
+            None if deframer.errors > before => BAD_STOP,
+            None => WAITING,
+        };
         // "The error count holds at 4,294,967,295."
         deframer.errors = deframer.errors.min(u32::MAX as usize);
         answer.copy_from_slice(&[
-            u64::from(byte.is_some()),
+            kind,
             u64::from(byte.unwrap_or(0)),
             u64::from(deframer.in_frame),
             u64::from(deframer.bit_count),
@@ -307,7 +314,9 @@ pub fn receive(
     for (call, answer) in script.chunks_exact(CALL).zip(answers.chunks_exact_mut(HEARD)) {
         let block = part(samples, written, call[0]);
         written += block.len();
+        let before = receiver.rx.framing_errors();
         answer[0] = receiver.write(block);
+        let stops = receiver.rx.framing_errors() - before;
 
         let room = (bytes.len() - byte_at).min(call[1] as usize);
         let read = receiver.rx.read(&mut bytes[byte_at..byte_at + room]);
@@ -321,6 +330,7 @@ pub fn receive(
 
         answer[3] = u64::from(receiver.rx.carrier_detected());
         answer[4] = receiver.rx.framing_errors() as u64;
+        answer[5] = stops as u64;
         calls += 1;
     }
     calls

@@ -137,7 +137,7 @@ pub fn of_a_board(index: usize, random: &mut Random) -> Result<usize, String> {
     let [answers_without, shown_without] =
         same(&name, |side| listened(side, rate, role, &plain, plain.lengths.len()))?;
     let kept = writes.without_refused(&answers, JUDGED, &|answer| {
-        [[3, 0, 0, 0], [4, 0, 0, 0]].iter().any(|refusal| answer == refusal)
+        [[3, 0, 0, 0, 0], [4, 0, 0, 0, 0]].iter().any(|refusal| answer == refusal)
     });
     if kept.as_ref() != Some(&answers_without) || shown != shown_without || shown[0] != 1 {
         return Err(format!("{name}: a refused write changes what comes after it"));
@@ -223,7 +223,7 @@ pub fn of_a_receiver(index: usize, random: &mut Random) -> Result<usize, String>
     let without = same_heard(&plain.heard_by(rate, role, plain.lengths.len()))?;
     let name = format!("rate {rate}, role {role}");
     let kept = writes.without_refused(&with.answers, HEARD, &|answer| {
-        [3, 4].contains(&answer[0]) && answer[1..3] == [0, 0]
+        [3, 4].contains(&answer[0]) && answer[1..3] == [0, 0] && answer[5] == 0
     });
     if kept.as_ref() != Some(&without.answers) || bits(&with.state) != bits(&without.state) {
         return Err(format!("{name}: a refused write changes what comes after it"));

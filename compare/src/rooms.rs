@@ -283,7 +283,8 @@ fn frame_bytes(rooms: &mut Rooms) -> Result<(), String> {
 }
 
 fn deframe(rooms: &mut Rooms) -> Result<(), String> {
-    let bits = [0, 1, 0, 0, 1, 1, 0, 1, 0, 1, 0, 0];
+    // A byte, a bad stop, and the start of another byte.
+    let bits = [0, 1, 0, 0, 1, 1, 0, 1, 0, 1, 0, 1, 0, 0, 1, 1, 0, 1, 0, 0, 0, 0];
     for given in 0..=bits.len() {
         for answers in 0..=PUSHED * bits.len() + 7 {
             rooms.same("deframe", &[given, answers], &|side| {

@@ -69,7 +69,7 @@ fn judge(line: &[u8]) -> Line {
 }
 
 /// The number, and what is left in the four places.
-fn judged_read(buffer: &[u8], places: usize) -> (u32, Vec<u64>) {
+pub fn judged_read(buffer: &[u8], places: usize) -> (u32, Vec<u64>) {
     let store = &buffer[..buffer.len().min(256)];
     let mut lines: Vec<&[u8]> = store.split(|&b| b == 10).collect();
     lines.pop();
@@ -92,7 +92,7 @@ fn judged_read(buffer: &[u8], places: usize) -> (u32, Vec<u64>) {
 }
 
 /// The number, and the buffer after it.
-fn judged_write(buffer: &[u8], rate: u32, station: u16, role: u32) -> (u32, Vec<u8>) {
+pub fn judged_write(buffer: &[u8], rate: u32, station: u16, role: u32) -> (u32, Vec<u8>) {
     let mut after = buffer.to_vec();
     let store = &buffer[..buffer.len().min(256)];
     let at = store.iter().rposition(|&b| b == 10).map_or(0, |i| i + 1);

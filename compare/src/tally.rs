@@ -34,8 +34,8 @@ impl Tally {
             drained += call[2] as usize;
             changes += usize::from(call[3] != carrier);
             carrier = call[3];
+            self.errors += call[5];
         }
-        self.errors += heard.answers[heard.answers.len() - 1];
         let ups = heard.events[..drained].iter().filter(|&&e| e == 1).count();
         self.ups += ups;
         self.downs += drained - ups;

@@ -76,10 +76,10 @@ fn around_news(rate: u32, role: u32, tape: Tape) -> ReceiverCase {
     let mut reports = [0; 2];
     let mut ends = Vec::new();
     for (i, answer) in heard.answers.chunks_exact(HEARD).enumerate() {
-        if answer[1] + answer[2] > 0 || answer[3..] != reports {
+        if answer[1] + answer[2] > 0 || answer[3..5] != reports {
             ends.extend([i, i + 1]);
         }
-        reports.copy_from_slice(&answer[3..]);
+        reports.copy_from_slice(&answer[3..5]);
     }
     ends.push(case.samples.len());
     case.script.clear();

@@ -4,6 +4,7 @@ use core::slice::{from_raw_parts, from_raw_parts_mut};
 
 use crate::judge;
 use crate::oracle;
+use crate::settings;
 
 #[no_mangle]
 unsafe extern "C" fn morkhetta_resample(
@@ -225,4 +226,30 @@ unsafe extern "C" fn morkhetta_listen(
         from_raw_parts_mut(answers, answers_len),
         from_raw_parts_mut(shown, shown_len),
     )
+}
+
+#[no_mangle]
+unsafe extern "C" fn morkhetta_settings_read(
+    buffer: *const u8,
+    buffer_len: usize,
+    settings: *mut u64,
+    settings_len: usize,
+) -> u32 {
+    let (number, told) = settings::judged_read(from_raw_parts(buffer, buffer_len), settings_len);
+    from_raw_parts_mut(settings, settings_len).copy_from_slice(&told);
+    number
+}
+
+#[no_mangle]
+unsafe extern "C" fn morkhetta_settings_write(
+    buffer: *mut u8,
+    buffer_len: usize,
+    rate: u32,
+    station: u16,
+    role: u32,
+) -> u32 {
+    let buffer = from_raw_parts_mut(buffer, buffer_len);
+    let (number, after) = settings::judged_write(buffer, rate, station, role);
+    buffer.copy_from_slice(&after);
+    number
 }

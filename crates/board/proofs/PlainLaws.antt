@@ -18,7 +18,7 @@ use Rattle.modem.specs.Listener.{samplesRefused}
 use Rattle.modem.proofs.RxCalls.{never-waits, admitted-same}
 use Rattle.tide.specs.Decoder.{Decoder, tookAll, linesIn, verdictsIn, lastOf}
 use Rattle.tide.proofs.DecoderLaws.{tookAll-append, linesIn-append, verdictsIn-append}
-use Rattle.board.specs.Plain.{Plain, decoder, fresh, newNumber, newOf, number, accepts, heardOf, heardIn, took, after, lines, verdicts, summary, Answer, refused, heard, answer, afterAll, heardAll, linesAll, verdictsAll, answersAll, endedIn}
+use Rattle.board.specs.Plain.{Plain, decoder, fresh, newNumber, newOf, number, accepts, heardOf, heardIn, took, after, lines, verdicts, Summary, summary, Answer, refused, heard, answer, afterAll, heardAll, linesAll, verdictsAll, answersAll, endedIn}
 
 -- ---- the number of a refusal: 3, 4 or 31
 pub never-32 : (b : Plain) (s : List Float) → number b s ≡ 32 → ⊥
@@ -94,13 +94,12 @@ all-verdicts b (s ∷ ws) =
 -- the lines ended, as the answers say
 ended-one : (b : Plain) (s : List Float) (rest : List Answer) → endedIn (answer b s ∷ rest) ≡ length (lines b s) + endedIn rest
 unfolding answer summary lines heardIn linesIn endedIn
-ended-one b s rest = by (accepts b s) (bytesIn (heardIn b s)) (heardOf b s .happenings) (lastOf 0 (verdicts b s)) (number b s)
+ended-one b s rest = by (accepts b s) (summary b s) (heardOf b s .happenings) (number b s) refl
   where
-    by : (t : Bool) (bs : List ℕ) (hs : List Happening) (a k : ℕ)
-        → endedIn ((if t then heard (record { bytes = length bs; lines = length (linesIn (decoder b) (if t then hs else [])); last = a }) else refused k) ∷ rest)
-        ≡ length (linesIn (decoder b) (if t then hs else [])) + endedIn rest
-    by true bs hs a k = refl
-    by false bs hs a k = omega arith
+    by : (t : Bool) (x : Summary) (hs : List Happening) (k : ℕ) → x .lines ≡ length (linesIn (decoder b) (if t then hs else []))
+        → endedIn ((if t then heard x else refused k) ∷ rest) ≡ length (linesIn (decoder b) (if t then hs else [])) + endedIn rest
+    by true x hs k e = omega (arith, e)
+    by false x hs k e = omega arith
 
 pub all-ended : (b : Plain) (ws : List (List Float)) → length (linesAll b ws) ≡ endedIn (answersAll b ws)
 unfolding linesAll answersAll

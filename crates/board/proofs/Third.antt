@@ -1,7 +1,7 @@
 -- The third term holds of the plain board, for every list of writes. Assumes nothing.
 use Prim.Native.Nat.{ℕ, _+_, _≤_, _<_}
 use mathlib.Core.Bool.{false}
-use mathlib.Core.Path.{_≡_, refl, sym, ap, _∙_}
+use mathlib.Core.Path.{_≡_, refl, sym, ap, subst, _∙_}
 use mathlib.Core.List.{List, [], _∷_, _++_}
 use native.Mathlib.Omega.{arith}
 use Rattle.happenings.specs.Happening.{bytesIn}
@@ -18,7 +18,12 @@ use Rattle.tide.proofs.JudgeLaws as judging
 use Rattle.tide.proofs.DecoderLaws as decoders
 use Rattle.tide.proofs.LinesLaws.{lines-of-bytes}
 use Rattle.tide.specs.Lines.{linesOf}
-use Rattle.board.specs.Plain.{Plain, decoder, fresh, afterAll, linesAll, verdictsAll, answersAll, heardAll}
+use Rattle.board.specs.Plain.{Plain, decoder, fresh, afterAll, linesAll, verdictsAll, answersAll, heardAll, badStopsGiven}
+use Rattle.refusal.specs.Refusals.{rateRefused}
+use Rattle.resampling.specs.Resample as resample
+use Rattle.modem.specs.Listener.{freshDemod}
+use Rattle.modem.specs.Rx.{CountsAll}
+use Rattle.board.proofs.ReceiverLaws.{all-given, fresh-errors}
 use Rattle.board.proofs.PlainLaws.{all-decoder, all-lines, all-verdicts, all-ended}
 use Rattle.board.specs.Term.{stands, given, lineOf, onFields, JudgedAs, RunsOn, Term3}
 
@@ -47,7 +52,8 @@ given-more mine ls l = decoders.answers-append mine none ls (l ∷ []) ∙ unfol
 line-is : (l : Line) (chars : List ℕ) → chars ≡ l .chars → l .more ≡ false → l ≡ lineOf chars
 line-is l chars e m = rw (e, ← m) refl
 
-module _ (b : Plain) (is : decoder b ≡ freshDecoder (b .station)) (ws : List (List Float)) where
+module _ (b : Plain) (is : decoder b ≡ freshDecoder (b .station)) (ws : List (List Float))
+    (errors : rateRefused (b .receiver .resampler .src) ≡ false → CountsAll (badStopsGiven (answersAll b ws)) (afterAll b ws .receiver .inner .deframer .errors)) where
   abbrev station : ℕ
   station = b .station
 
@@ -125,6 +131,8 @@ module _ (b : Plain) (is : decoder b ≡ freshDecoder (b .station)) (ws : List (
         greatest = λ x e. rw (lines-are) (best-most _ _ x (sym reading-is ∙ e) (claims .reading));
         counts = λ n h. rw (counts-are, verdicts-are) (claims .counts n h);
         ended = all-ended b ws;
+        bad-stops = all-given b ws;
+        errors = errors;
         judged = rw (lines-are, counts-are) (claims .judged ∙ total-split (tookAll (freshDecoder station) all .counts) ∙ unfold place in refl);
         verdicts = rw (lines-are, verdicts-are) (claims .verdicts);
         shown = rw (lines-are, reading-is) (claims .shown);
@@ -141,6 +149,12 @@ is-fresh : (rate station : ℕ) (role : Role) → decoder (fresh rate station ro
 unfolding fresh freshDecoder
 is-fresh rate station role = refl
 
+fresh-rate : (rate station : ℕ) (role : Role) → fresh rate station role .receiver .resampler .src ≡ rate
+unfolding fresh freshDemod resample.fresh
+fresh-rate rate station role = refl
+
 pub third : (rate station : ℕ) (role : Role) (ws : List (List Float))
     → Term3 (fresh rate station role) ws (afterAll (fresh rate station role) ws) (answersAll (fresh rate station role) ws)
-third rate station role ws = term (fresh rate station role) (is-fresh rate station role) ws
+third rate station role ws =
+    term (fresh rate station role) (is-fresh rate station role) ws
+    (λ ok. fresh-errors rate station role (subst (λ (r : ℕ). rateRefused r ≡ false) (fresh-rate rate station role) ok) ws)

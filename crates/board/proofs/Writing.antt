@@ -11,12 +11,13 @@ use Rattle.numeric.specs.If.{if_then_else_}
 use Rattle.refusal.specs.Refusals.{numberOf, acceptanceOf, replyOf, first, rateRefused}
 use Rattle.refusal.proofs.RefusalLaws.{first-yes, first-no}
 use Rattle.framing.specs.Framing as framing
-use Rattle.happenings.specs.Happening.{bytesIn}
+use Rattle.happenings.specs.Happening.{bytesIn, badStopsIn, TallyOf}
 use Rattle.happenings.specs.Codes.{heardIn}
 use Rattle.happenings.specs.declared.happening.Happening.{Happening}
+use Rattle.happenings.specs.declared.happening.Tally.{Tally}
 use Rattle.modem.specs.Listener as rx
 use Rattle.modem.specs.ListenerRep.{demodOf, ListenerSound, Opens, Takes, Hears}
-use Rattle.modem.proofs.RxLaws.{heard-few, fresh-idle}
+use Rattle.modem.proofs.RxLaws.{heard-completed, fresh-idle}
 use Rattle.modem.proofs.RxCalls.{listener-listens, number-some, refused-by}
 use Rattle.bell103.specs.declared.Role.{Role}
 use Rattle.demodulation.specs.declared.kind.Kind.the-variants as kind
@@ -84,13 +85,17 @@ module _ (rate station : ℕ) (role : Role) (m : Opened) (d : Decoder) (opens : 
       }
 
 -- ---- what was heard, judged
-pub judges-all : (l : Listener) (d : Decoder) (hs : List Happening) (out : List ℕ) (f : Fed) (out′ : List ℕ) (n : ℕ)
-    → Judgeable d hs → decoders.Feeds d hs out f out′ → n ≡ length (bytesIn hs)
+pub judges-all : (l : Listener) (d : Decoder) (hs : List Happening) (out : List ℕ) (f : Fed) (out′ : List ℕ) (t : Tally)
+    → Judgeable d hs → decoders.Feeds d hs out f out′ → TallyOf hs t
     → JudgesAll l d hs out
-    (record { answer = answer.Heard (record { bytes = n; lines = f .lines; last = f .last }); state = record { listener = l; decoder = f .decoder } }) out′
-judges-all l d hs out f out′ n j fed p =
+    (record {
+      answer = answer.Heard (record { bytes = t .bytes; lines = f .lines; last = f .last; «bad_stops» = t .«bad_stops» });
+      state = record { listener = l; decoder = f .decoder };
+    })
+    out′
+judges-all l d hs out f out′ t j fed p =
     record {
-      answer = rw (p, fed .lines, fed .last) refl;
+      answer = rw (p .bytes, p .bad-stops, fed .lines, fed .last) refl;
       decoder = fed .same ∙ holds-heard hs (decoders.decoderOf d) (j .sound .places) (j .room);
       listener = refl;
       sound = fed .sound;
@@ -134,7 +139,7 @@ module _ (b : Board) (s : List Float) (ok : BoardSound b) (before codes : List �
 
     few-bytes : 10 * length (bytesIn (heardIn (w .count) codes)) + framing.held (demodOf (w .state) .inner .deframer)
         ≤ framing.held (demodOf (b .listener) .inner .deframer) + 3 * length s
-    few-bytes = rw (takes .heard, takes .demod) (heard-few (demodOf (b .listener)) s (listener-listens (b .listener) (ok .listener)))
+    few-bytes = rw (takes .heard, takes .demod) (omega (arith, heard-completed (demodOf (b .listener)) s (listener-listens (b .listener) (ok .listener))))
 
     pub judgeable : Judgeable (b .decoder) (heardIn (w .count) codes)
     unfolding Few
@@ -149,6 +154,7 @@ module _ (b : Board) (s : List Float) (ok : BoardSound b) (before codes : List �
             bytes = length (bytesIn hs);
             lines = length (tide.linesIn (decoders.decoderOf (b .decoder)) hs);
             last = tide.lastOf 0 (tide.verdictsIn (decoders.decoderOf (b .decoder)) hs);
+            bad-stops = badStopsIn hs;
           })
 
       answers : answerOf (r .answer) ≡ plain.answer (plainOf b) s

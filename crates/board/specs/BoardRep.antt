@@ -6,7 +6,7 @@ use lib.ListN.{length}
 use lib.Ieee.{Float}
 use Rattle.refusal.specs.Refusals.{numberOf, acceptanceOf}
 use Rattle.framing.specs.Framing as framing
-use Rattle.happenings.specs.Happening.{bytesIn}
+use Rattle.happenings.specs.Happening.{bytesIn, badStopsIn}
 use Rattle.happenings.specs.declared.happening.Happening.{Happening}
 use Rattle.modem.specs.ListenerRep.{demodOf, ListenerSound}
 use Rattle.bell103.specs.declared.Role.{Role}
@@ -29,7 +29,7 @@ plainOf b = plain.plain (demodOf (b .listener)) (b .listener .accepted) (decoder
 
 -- what each case of an answer gives
 abbrev pub summaryOf : Summary → plain.Summary
-summaryOf x = record { bytes = x .bytes; lines = x .lines; last = x .last }
+summaryOf x = record { bytes = x .bytes; lines = x .lines; last = x .last; bad-stops = x .«bad_stops» }
 
 abbrev pub answerOf : code.Answer → plain.Answer
 answerOf (answer.Refused r) = plain.refused (numberOf r)
@@ -73,7 +73,13 @@ pub record Judgeable (d : Decoder) (hs : List Happening) : Type 0 where
 pub record JudgesAll (l : Listener) (d : Decoder) (hs : List Happening) (out : List ℕ) (r : Written) (out′ : List ℕ) : Type 0 where
   pub answer :
       answerOf (r .answer)
-      ≡ plain.heard (record { bytes = length (bytesIn hs); lines = length (linesIn (decoderOf d) hs); last = lastOf 0 (verdictsIn (decoderOf d) hs) })
+      ≡ plain.heard (
+      record {
+        bytes = length (bytesIn hs);
+        lines = length (linesIn (decoderOf d) hs);
+        last = lastOf 0 (verdictsIn (decoderOf d) hs);
+        bad-stops = badStopsIn hs;
+      })
   pub decoder : decoderOf (r .state .decoder) ≡ tookAll (decoderOf d) hs
   pub listener : r .state .listener ≡ l
   pub sound : Sound (r .state .decoder)

@@ -8,7 +8,7 @@ use lib.Ieee.{Float}
 use Rattle.numeric.specs.If.{if_then_else_}
 use Rattle.bell103.specs.declared.Role.{Role}
 use Rattle.refusal.specs.Refusals.{Reply, replyOf, first, rateRefused}
-use Rattle.happenings.specs.Happening.{bytesIn}
+use Rattle.happenings.specs.Happening.{bytesIn, badStopsIn}
 use Rattle.happenings.specs.declared.happening.Happening.{Happening}
 use Rattle.demodulation.specs.declared.kind.Kind.the-variants.{ForBoard}
 use Rattle.modem.specs.Samples.{allInRange}
@@ -85,14 +85,22 @@ lines b s = linesIn (decoder b) (heardIn b s)
 unfoldable pub verdicts : Plain → List Float → List ℕ
 verdicts b s = verdictsIn (decoder b) (heardIn b s)
 
--- "bytes heard (yielded by the deframer), lines ended (judged) and the last line's answer (0 also when none ended), all of that write alone"
+-- "bytes heard (yielded by the deframer), lines ended (judged) and the last line's answer (0 also when none ended), all of that write alone";
+-- "the number of bad stops in each accepted write's answer"
 pub record Summary : Type 0 where
   pub bytes : ℕ
   pub lines : ℕ
   pub last : ℕ
+  pub bad-stops : ℕ
 
 unfoldable pub summary : Plain → List Float → Summary
-summary b s = record { bytes = length (bytesIn (heardIn b s)); lines = length (lines b s); last = lastOf 0 (verdicts b s) }
+summary b s =
+    record {
+      bytes = length (bytesIn (heardIn b s));
+      lines = length (lines b s);
+      last = lastOf 0 (verdicts b s);
+      bad-stops = badStopsIn (heardIn b s);
+    }
 
 -- "A refused write gives its number alone. An accepted write's answer gives" its summary
 pub data Answer : Type 0 where
@@ -136,3 +144,9 @@ unfoldable pub endedIn : List Answer → ℕ
 endedIn [] = 0
 endedIn (refused n ∷ l) = endedIn l
 endedIn (heard x ∷ l) = x .lines + endedIn l
+
+-- bad stops, summed over the accepted writes
+unfoldable pub badStopsGiven : List Answer → ℕ
+badStopsGiven [] = 0
+badStopsGiven (refused n ∷ l) = badStopsGiven l
+badStopsGiven (heard x ∷ l) = x .bad-stops + badStopsGiven l

@@ -21,12 +21,12 @@ writesOf s (n ∷ ns) = take n s ∷ writesOf (drop n s) ns
 
 -- how many numbers an answer has
 abbrev pub width : ℕ
-width = 4
+width = 5
 
--- they are: the refusal, 0 where there is none; bytes heard, lines ended and the last line's answer, 0 where it is refused
+-- they are: the refusal, 0 where there is none; bytes heard, lines ended, the last line's answer and the bad stops, 0 where it is refused
 abbrev pub numbersOf : Answer → List ℕ
-numbersOf (refused n) = n ∷ 0 ∷ 0 ∷ 0 ∷ []
-numbersOf (heard x) = 0 ∷ x .bytes ∷ x .lines ∷ x .last ∷ []
+numbersOf (refused n) = n ∷ 0 ∷ 0 ∷ 0 ∷ 0 ∷ []
+numbersOf (heard x) = 0 ∷ x .bytes ∷ x .lines ∷ x .last ∷ x .bad-stops ∷ []
 
 unfoldable pub numbersAll : List Answer → List ℕ
 numbersAll [] = []

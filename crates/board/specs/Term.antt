@@ -7,14 +7,16 @@ use mathlib.Core.List.{List, [], _∷_, _++_}
 use lib.IntN.{ℤ}
 use lib.ListN.{length, getD, drop}
 use lib.Ieee.{Float}
+use Rattle.refusal.specs.Refusals.{rateRefused}
+use Rattle.modem.specs.Rx.{CountsAll}
 use Rattle.hexadecimal.specs.Hex.{hexLine, unhex, total}
-use Rattle.happenings.specs.Happening.{bytesIn, typed}
+use Rattle.happenings.specs.Happening.{bytesIn, badStopsIn, typed}
 use Rattle.happenings.specs.declared.happening.Happening.{Happening}
 use Rattle.tide.specs.Frame.{readerOf, Intact, Writer, Rules, bitsOf, lineBy}
 use Rattle.tide.specs.Judge.{Reading, Shown, none, shows, Verdict, judge, settle, ofFields, Passes, Readable, Past17}
 use Rattle.tide.specs.Decoder.{Line, Decoder, IsAnswer, countOf, verdict, tookAll, linesIn, verdictsIn, shownOn, answersOn, times, goods, AtMost, Best}
 use Rattle.tide.specs.Lines.{linesOf}
-use Rattle.board.specs.Plain.{Plain, decoder, Answer, afterAll, heardAll, linesAll, verdictsAll, answersAll, endedIn}
+use Rattle.board.specs.Plain.{Plain, decoder, Answer, afterAll, heardAll, linesAll, verdictsAll, answersAll, endedIn, badStopsGiven}
 
 -- ---- the lines judged, in order
 -- what a board of station `mine` shows when it has judged these lines since fresh, and the answers that it gave them
@@ -83,6 +85,10 @@ pub record Term3 (fresh : Plain) (ws : List (List Float)) (b : Plain) (said : Li
   pub counts : (n : ℕ) → IsAnswer n → countOf (decoder b) n ≡ times n (verdictsAll fresh ws)
   -- "Lines judged since fresh = lines ended, summed over the accepted writes"
   pub ended : length (linesAll fresh ws) ≡ endedIn said
+  -- "the number of bad stops in each accepted write's answer": summed they are the bad stops of all that was heard
+  pub bad-stops : badStopsGiven said ≡ badStopsIn (heardAll fresh ws)
+  -- and, at every admitted rate, the deframer's error count, which never holds
+  pub errors : rateRefused (fresh .receiver .resampler .src) ≡ false → CountsAll (badStopsGiven said) (b .receiver .inner .deframer .errors)
   -- "= shown (answer 0) + sum of the other counts"
   pub judged : length (linesAll fresh ws) ≡ countOf (decoder b) 0 + total (drop 1 (b .counts))
   -- the answers are those of the lines, "judged and emptied" one after the other

@@ -2,7 +2,7 @@
 use crate::counts::sum_of;
 use crate::station::check_station;
 use bell103::Role;
-use happenings::bytes_in;
+use happenings::tally_of;
 use modem::Kind;
 use modem::Listener;
 use refusal::Acceptance;
@@ -29,11 +29,12 @@ pub struct Created {
     pub answer: Acceptance,
 }
 
-// Of an accepted write: bytes heard, lines ended, and the last one's answer, 0 also when none ended.
+// Of an accepted write: bytes heard, lines ended, the last one's answer, 0 also when none ended, and bad stops.
 pub struct Summary {
     pub bytes: u64,
     pub lines: u64,
     pub last: u8,
+    pub bad_stops: u64,
 }
 
 // What `write` answers: why it is refused, or its summary.
@@ -63,16 +64,17 @@ fn judge_all(listener: Listener, decoder: Decoder, codes: &[u16], verdicts: &mut
     ensures { λ r. ⌜ JudgesAll listener decoder (happeningsOf (now (codes .entry))) (now (verdicts .entry)) r (now (verdicts .exit)) ⌝ }
 {
     let f = decoder.feed(codes, verdicts);
-    let bytes = bytes_in(codes);
+    let tally = tally_of(codes);
     let judged = f.decoder;
     let state = Board {
         listener,
         decoder: judged,
     };
     let heard = Summary {
-        bytes: bytes as u64,
+        bytes: tally.bytes as u64,
         lines: f.lines,
         last: f.last,
+        bad_stops: tally.bad_stops as u64,
     };
     Written {
         answer: Answer::Heard(heard),

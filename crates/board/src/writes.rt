@@ -23,7 +23,7 @@ pub struct Listened {
 }
 
 fn numbers_of(answer: Answer) -> Numbers
-    ensures { λ r. ⌜ r .number ∷ r .bytes ∷ r .lines ∷ r .last ∷ [] ≡ numbersOf (answerOf answer) ⌝ }
+    ensures { λ r. ⌜ r .number ∷ r .bytes ∷ r .lines ∷ r .last ∷ r .«bad_stops» ∷ [] ≡ numbersOf (answerOf answer) ⌝ }
 {
     match answer {
         Answer::Refused(why) => Numbers {
@@ -31,12 +31,14 @@ fn numbers_of(answer: Answer) -> Numbers
             bytes: 0,
             lines: 0,
             last: 0,
+            bad_stops: 0,
         },
         Answer::Heard(x) => Numbers {
             number: 0,
             bytes: x.bytes,
             lines: x.lines,
             last: x.last,
+            bad_stops: x.bad_stops,
         },
     }
 }

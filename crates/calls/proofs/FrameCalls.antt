@@ -6,12 +6,14 @@ use mathlib.Core.List.{List, [], _∷_, _++_, map, map-append, append-assoc, app
 use native.Mathlib.Numerals.{add-one}
 use native.Mathlib.Omega.{arith}
 use lib.ListN.{length, getD, set, take, drop, length-append, length-map, List·getD-map}
-use lib.Seq.{take-suc, take-at, drop-drop, length-take-le, sets-eq, paste, paste-suc}
+use lib.Seq.{take-suc, take-at, drop-drop, length-take-le, paste, paste-suc}
 use Rattle.numeric.proofs.Parts.{drop-behind}
 use Rattle.framing.proofs.FramingLaws.{frames-length, after-append}
 use Rattle.framing.specs.Frame.{Deframed, frameOf, pushBit, after}
 use Rattle.framing.specs.Framing.{framesOf}
 use Rattle.framing.specs.declared.frame.Deframer.{Deframer}
+use Rattle.framing.specs.declared.frame.Heard.{Heard}
+use Rattle.framing.specs.declared.frame.Heard.the-variants.{Byte, Waiting, BadStop}
 use Rattle.calls.specs.Answers.{bit}
 use Rattle.calls.specs.Frames.{markIn, framesFor, framesRun, heardNumbers, deframerNumbers, pushReply, pushReplies, bitsFor, deframeRun}
 use Rattle.calls.specs.Resample.{ran}
@@ -59,15 +61,16 @@ module _ (bytes : List ℕ) (i : ℕ) (some : i < length bytes) where
       rw frames-more (laid-step (10 * i) (10 * (i + 1)) l0 l l′ (map bit (framesOf (take i bytes))) (map bit (frameOf (getD bytes i 0))) frames-long (omega arith) is e)
 
 -- ---- a deframer's answers
-reply-length : (bytes : List ℕ) → length (heardNumbers bytes) ≡ 2
-reply-length [] = refl
-reply-length (b ∷ more) = refl
+reply-length : (heard : Heard) → length (heardNumbers heard) ≡ 2
+reply-length (Byte b) = refl
+reply-length Waiting = refl
+reply-length BadStop = refl
 
 replies-length : (d : Deframer) (bs : List Bool) → length (pushReplies d bs) ≡ 6 * length bs
 unfolding pushReplies
 replies-length d [] = refl
 replies-length d (b ∷ bs) =
-    rw (length-append (pushReply (pushBit d b)) (pushReplies (pushBit d b .state) bs), length-append (heardNumbers (pushBit d b .bytes)), reply-length (pushBit d b .bytes))
+    rw (length-append (pushReply (pushBit d b)) (pushReplies (pushBit d b .state) bs), length-append (heardNumbers (pushBit d b .heard)), reply-length (pushBit d b .heard))
     (omega (arith, replies-length (pushBit d b .state) bs))
 
 replies-append : (d : Deframer) (xs : List Bool) (b : Bool) → pushReplies d (xs ++ (b ∷ [])) ≡ pushReplies d xs ++ pushReply (pushBit (after d xs) b)
@@ -102,19 +105,9 @@ module _ (d0 : Deframer) (bits : List ℕ) (i : ℕ) (some : i < length bits) wh
       → l′ ≡ take (6 * i) l ++ (pushReply (pushBit d next) ++ drop (6 * i + 6) l) → l′ ≡ pushReplies d0 (map markIn (take (i + 1) bits)) ++ drop (6 * (i + 1)) l0
   bits-step d l0 l l′ d-is is e =
       let new : List ℕ = pushReply (pushBit d next) in
-      let six : length new ≡ 6 = rw (length-append (heardNumbers (pushBit d next .bytes)), reply-length (pushBit d next .bytes)) in
+      let six : length new ≡ 6 = rw (length-append (heardNumbers (pushBit d next .heard)), reply-length (pushBit d next .heard)) in
       rw (pushed-more, replies-append d0 pushed next, ← d-is)
       (laid-step (6 * i) (6 * (i + 1)) l0 l l′ (pushReplies d0 pushed) new pushed-long (omega (arith, six)) is (rw six e))
-
--- ---- six stores
-pub set-six : {A : Type 0} (l : List A) (at : ℕ) (a b c d e f : A) → at + 6 ≤ length l
-    → set (set (set (set (set (set l at a) (at + 1) b) (at + 2) c) (at + 3) d) (at + 4) e) (at + 5) f ≡ take at l ++ ((a ∷ b ∷ c ∷ d ∷ e ∷ f ∷ []) ++ drop (at + 6) l)
-set-six l at a b c d e f h =
-    let two : at + 2 ≡ suc (suc at) = omega arith in
-    let three : at + 3 ≡ suc (suc (suc at)) = omega arith in
-    let four : at + 4 ≡ suc (suc (suc (suc at))) = omega arith in
-    let five : at + 5 ≡ suc (suc (suc (suc (suc at)))) = omega arith in
-    rw (add-one, two, three, four, five) (sets-eq (a ∷ b ∷ c ∷ d ∷ e ∷ f ∷ []) l at h ∙ append-assoc (take at l) (a ∷ b ∷ c ∷ d ∷ e ∷ f ∷ []) (drop (at + 6) l))
 
 -- ---- loops
 -- a frame, bit by bit
@@ -138,6 +131,6 @@ unfolding deframeRun
 bits-end i n d bits l0 l n-is i-is e = rw (← n-is, ← i-is, e)
 
 -- a bit's answer, as the code holds it
-pub push-told : (p q : Deframed) (a b : ℕ) (before behind ans : List ℕ) → p ≡ q → a ∷ b ∷ [] ≡ heardNumbers (p .bytes)
+pub push-told : (p q : Deframed) (a b : ℕ) (before behind ans : List ℕ) → p ≡ q → a ∷ b ∷ [] ≡ heardNumbers (p .heard)
     → ans ≡ before ++ ((a ∷ b ∷ deframerNumbers (p .state)) ++ behind) → ans ≡ before ++ (pushReply q ++ behind)
 push-told p q a b before behind ans is y e = rw (← is) (e ∙ ap (λ (h : List ℕ). before ++ ((h ++ deframerNumbers (p .state)) ++ behind)) y)

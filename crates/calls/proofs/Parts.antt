@@ -31,11 +31,12 @@ module _ {A : Type 0} where
   pub set-two : (l : List A) (at : ℕ) (x y : A) → at + 2 ≤ length l → set (set l at x) (at + 1) y ≡ take at l ++ (x ∷ y ∷ drop (at + 2) l)
   set-two l at x y h = rw add-one (sets-eq (x ∷ y ∷ []) l at h ∙ append-assoc (take at l) (x ∷ y ∷ []) (drop (at + 2) l))
 
-  -- five stores
-  pub set-five : (l : List A) (at : ℕ) (a b c d e : A) → at + 5 ≤ length l
-      → set (set (set (set (set l at a) (at + 1) b) (at + 2) c) (at + 3) d) (at + 4) e ≡ take at l ++ ((a ∷ b ∷ c ∷ d ∷ e ∷ []) ++ drop (at + 5) l)
-  set-five l at a b c d e h =
+  -- six stores
+  pub set-six : (l : List A) (at : ℕ) (a b c d e f : A) → at + 6 ≤ length l
+      → set (set (set (set (set (set l at a) (at + 1) b) (at + 2) c) (at + 3) d) (at + 4) e) (at + 5) f ≡ take at l ++ ((a ∷ b ∷ c ∷ d ∷ e ∷ f ∷ []) ++ drop (at + 6) l)
+  set-six l at a b c d e f h =
       let two : at + 2 ≡ suc (suc at) = omega arith in
       let three : at + 3 ≡ suc (suc (suc at)) = omega arith in
       let four : at + 4 ≡ suc (suc (suc (suc at))) = omega arith in
-      rw (add-one, two, three, four) (sets-eq (a ∷ b ∷ c ∷ d ∷ e ∷ []) l at h ∙ append-assoc (take at l) (a ∷ b ∷ c ∷ d ∷ e ∷ []) (drop (at + 5) l))
+      let five : at + 5 ≡ suc (suc (suc (suc (suc at)))) = omega arith in
+      rw (add-one, two, three, four, five) (sets-eq (a ∷ b ∷ c ∷ d ∷ e ∷ f ∷ []) l at h ∙ append-assoc (take at l) (a ∷ b ∷ c ∷ d ∷ e ∷ f ∷ []) (drop (at + 6) l))

@@ -18,7 +18,7 @@ use Rattle.modem.specs.declared.rx.Rx.{Rx}
 use Rattle.calls.specs.Receive.{callIn, Called, called, relieved, callReply, Run, ran, after, receivedFrom}
 use Rattle.numeric.proofs.Parts.{take-min, drop-min, part-next, part-left, put-front, put-behind, put-within}
 use Rattle.calls.proofs.Parts.{part-put}
-use Rattle.calls.specs.Answers.{numberIn, bit, bitIn, heardOf}
+use Rattle.calls.specs.Answers.{numberIn, countIn, bit, bitIn, heardOf}
 use Rattle.calls.specs.ReceiveSteps.{Takes, Calls, Within, callAt, Stepped}
 use Rattle.calls.specs.declared.answers.Heard.{Heard}
 use Rattle.calls.specs.declared.receive.Call.{Call}
@@ -107,7 +107,7 @@ unfolding readOf
 read-is r bs = rw (min-comm (length (r .waiting)) (length bs), length-take (length bs) (r .waiting), take-min (length bs) (r .waiting), drop-min (length bs) (r .waiting))
 
 module _ (rx : Rx) (xs : List Float) (bs es : List ℕ)
-    (a : Reply Unit) (s : Receiver) (wrote-is : wrote a s ≡ written (receiverOf rx) xs)
+    (a : Reply ℕ) (s : Receiver) (wrote-is : wrote a s ≡ written (receiverOf rx) xs)
     (n : ℕ) (r : Receiver) (bs′ : List ℕ) (read-was : readOut n r bs′ ≡ readOf s bs)
     (m : ℕ) (q : Rx) (es′ : List ℕ) (takes : Takes r es m (receiverOf q) es′) (sound : RxSound q) where
   abbrev gives-call : Called
@@ -115,7 +115,7 @@ module _ (rx : Rx) (xs : List Float) (bs es : List ℕ)
 
   -- the call from what the write left
   abbrev behind : Called
-  behind = record { number = numberIn a; bytes = take (length bs) (s .waiting); events = take (length es) (s .logged); state = relieved (length bs) (length es) s }
+  behind = record { number = numberIn a; bad-stops = countIn a; bytes = take (length bs) (s .waiting); events = take (length es) (s .logged); state = relieved (length bs) (length es) s }
 
   behind-is : gives-call ≡ behind
   unfolding called
@@ -134,11 +134,11 @@ module _ (rx : Rx) (xs : List Float) (bs es : List ℕ)
   logged-is = ap (λ (x : Receiver). take (length es) (x .logged)) rest-is
 
   pub calls-is : (h : Heard) → h .number ≡ numberIn a → h .bytes ≡ n → h .events ≡ m → h .carrier ≡ bit (carrierOf (receiverOf q)) → h .errors ≡ errorsOf (receiverOf q)
-      → Calls gives-call bs es h q bs′ es′
-  calls-is h e1 e2 e3 e4 e5 =
+      → h .«bad_stops» ≡ countIn a → Calls gives-call bs es h q bs′ es′
+  calls-is h e1 e2 e3 e4 e5 e6 =
       rw behind-is
       (record {
-        reply = rw (e1, e2, e3, e4, e5, ap (λ (x : ReadOut). x .count) read-now, takes .count, logged-is, left-is);
+        reply = rw (e1, e2, e3, e4, e5, e6, ap (λ (x : ReadOut). x .count) read-now, takes .count, logged-is, left-is);
         state = left-is;
         bytes = ap (λ (x : ReadOut). x .buf) read-now;
         events = takes .buffer ∙ rw (takes .count, logged-is);
@@ -236,9 +236,9 @@ pub receive-start : (k : ℕ) (r : Receiver) (xs : List Float) (script bs es ans
     → after 0 [] [] [] (receivedFrom (k - 0) r xs script bs es ans) ≡ receivedFrom k r xs script bs es ans
 receive-start k r xs script bs es ans = rw (sub-zero k) (after-start (receivedFrom k r xs script bs es ans))
 
--- one call more, with its answer behind the first 5 * i numbers of ans
-module _ (script : List ℕ) (i : ℕ) (ans ans′ : List ℕ) (room : 5 * i + 5 ≤ length ans) (p q : Place) (xs : List Float) (bs bs′ es es′ : List ℕ) (at-p : Within p xs bs es)
-    (step : Stepped p q (callIn script i) xs bs bs′ es es′ (take (5 * i) ans) (drop (5 * i + 5) ans) ans′) where
+-- one call more, with its answer behind the first 6 * i numbers of ans
+module _ (script : List ℕ) (i : ℕ) (ans ans′ : List ℕ) (room : 6 * i + 6 ≤ length ans) (p q : Place) (xs : List Float) (bs bs′ es es′ : List ℕ) (at-p : Within p xs bs es)
+    (step : Stepped p q (callIn script i) xs bs bs′ es es′ (take (6 * i) ans) (drop (6 * i + 6) ans) ans′) where
   abbrev gave : Called
   gave = callAt p (callIn script i) xs bs es
 
@@ -260,14 +260,14 @@ module _ (script : List ℕ) (i : ℕ) (ans ans′ : List ℕ) (room : 5 * i + 5
   events-behind : drop (q .events) es′ ≡ events-left
   events-behind = rw (step .events, step .events-at, ← length-map (gave .events) bit) (put-behind es (map bit (gave .events)) _ (p .events) (at-p .events))
 
-  five : 5 * (i + 1) ≡ 5 * i + 5
-  five = omega arith
+  next-place : 6 * (i + 1) ≡ 6 * i + 6
+  next-place = omega arith
 
-  answered : take (5 * (i + 1)) ans′ ≡ take (5 * i) ans ++ callReply gave
-  answered = rw (step .answers, five) (put-front ans (callReply gave) (drop (5 * i + 5) ans) (5 * i) (omega arith))
+  answered : take (6 * (i + 1)) ans′ ≡ take (6 * i) ans ++ callReply gave
+  answered = rw (step .answers, next-place) (put-front ans (callReply gave) (drop (6 * i + 6) ans) (6 * i) (omega arith))
 
-  unanswered : drop (5 * (i + 1)) ans′ ≡ drop 5 (drop (5 * i) ans)
-  unanswered = rw (step .answers, five, drop-drop 5 (5 * i) ans) (put-behind ans (callReply gave) (drop (5 * i + 5) ans) (5 * i) (omega arith))
+  unanswered : drop (6 * (i + 1)) ans′ ≡ drop 6 (drop (6 * i) ans)
+  unanswered = rw (step .answers, next-place, drop-drop 6 (6 * i) ans) (put-behind ans (callReply gave) (drop (6 * i + 6) ans) (6 * i) (omega arith))
 
   unrun : drop (3 * (i + 1)) script ≡ drop 3 (drop (3 * i) script)
   unrun =
@@ -278,18 +278,18 @@ module _ (script : List ℕ) (i : ℕ) (ans ans′ : List ℕ) (room : 5 * i + 5
   first-of = getD-drop (3 * i) script 0 0 ∙ rw (add-zero (3 * i))
 
   step-is : (k : ℕ)
-      → after (i + 1) (take (q .bytes) bs′) (take (q .events) es′) (take (5 * (i + 1)) ans′) (receivedFrom k (receiverOf (q .state)) (drop (q .read) xs) (drop (3 * (i + 1)) script) (drop (q .bytes) bs′) (drop (q .events) es′) (drop (5 * (i + 1)) ans′))
-      ≡ after i (take (p .bytes) bs) (take (p .events) es) (take (5 * i) ans) (receivedFrom (suc k) (receiverOf (p .state)) (drop (p .read) xs) (drop (3 * i) script) (drop (p .bytes) bs) (drop (p .events) es) (drop (5 * i) ans))
+      → after (i + 1) (take (q .bytes) bs′) (take (q .events) es′) (take (6 * (i + 1)) ans′) (receivedFrom k (receiverOf (q .state)) (drop (q .read) xs) (drop (3 * (i + 1)) script) (drop (q .bytes) bs′) (drop (q .events) es′) (drop (6 * (i + 1)) ans′))
+      ≡ after i (take (p .bytes) bs) (take (p .events) es) (take (6 * i) ans) (receivedFrom (suc k) (receiverOf (p .state)) (drop (p .read) xs) (drop (3 * i) script) (drop (p .bytes) bs) (drop (p .events) es) (drop (6 * i) ans))
   unfolding receivedFrom
   step-is k =
       rw (bytes-front, bytes-behind, events-front, events-behind, answered, unanswered, unrun, step .state, step .left, first-of, getD-drop (3 * i) script 1 0, getD-drop (3 * i) script 2 0)
-      (sym (after-after i 1 (take (p .bytes) bs) (gave .bytes) (take (p .events) es) (map bit (gave .events)) (take (5 * i) ans) (callReply gave)
-      (receivedFrom k (gave .state) (drop (getD script (3 * i) 0) (drop (p .read) xs)) (drop 3 (drop (3 * i) script)) bytes-left events-left (drop 5 (drop (5 * i) ans)))))
+      (sym (after-after i 1 (take (p .bytes) bs) (gave .bytes) (take (p .events) es) (map bit (gave .events)) (take (6 * i) ans) (callReply gave)
+      (receivedFrom k (gave .state) (drop (getD script (3 * i) 0) (drop (p .read) xs)) (drop 3 (drop (3 * i) script)) bytes-left events-left (drop 6 (drop (6 * i) ans)))))
 
   -- m calls were left
   pub receive-step : (k m : ℕ) → m ≡ suc k
-      → after (i + 1) (take (q .bytes) bs′) (take (q .events) es′) (take (5 * (i + 1)) ans′) (receivedFrom k (receiverOf (q .state)) (drop (q .read) xs) (drop (3 * (i + 1)) script) (drop (q .bytes) bs′) (drop (q .events) es′) (drop (5 * (i + 1)) ans′))
-      ≡ after i (take (p .bytes) bs) (take (p .events) es) (take (5 * i) ans) (receivedFrom m (receiverOf (p .state)) (drop (p .read) xs) (drop (3 * i) script) (drop (p .bytes) bs) (drop (p .events) es) (drop (5 * i) ans))
+      → after (i + 1) (take (q .bytes) bs′) (take (q .events) es′) (take (6 * (i + 1)) ans′) (receivedFrom k (receiverOf (q .state)) (drop (q .read) xs) (drop (3 * (i + 1)) script) (drop (q .bytes) bs′) (drop (q .events) es′) (drop (6 * (i + 1)) ans′))
+      ≡ after i (take (p .bytes) bs) (take (p .events) es) (take (6 * i) ans) (receivedFrom m (receiverOf (p .state)) (drop (p .read) xs) (drop (3 * i) script) (drop (p .bytes) bs) (drop (p .events) es) (drop (6 * i) ans))
   receive-step k m e = rw e (step-is k)
 
 -- the last of j calls

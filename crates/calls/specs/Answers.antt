@@ -29,6 +29,6 @@ abbrev pub bitIn : List Bool → ℕ
 bitIn [] = 0
 bitIn (e ∷ es) = bit e
 
--- the five numbers that the code holds
+-- the six numbers that the code holds
 abbrev pub heardOf : Heard → List ℕ
-heardOf h = h .number ∷ h .bytes ∷ h .events ∷ h .carrier ∷ h .errors ∷ []
+heardOf h = h .number ∷ h .bytes ∷ h .events ∷ h .carrier ∷ h .errors ∷ h .«bad_stops» ∷ []

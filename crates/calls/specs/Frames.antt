@@ -7,6 +7,8 @@ use lib.ListN.{length, take, drop}
 use Rattle.framing.specs.Frame.{Deframed, pushBit}
 use Rattle.framing.specs.Framing.{framesOf}
 use Rattle.framing.specs.declared.frame.Deframer.{Deframer}
+use Rattle.framing.specs.declared.frame.Heard.{Heard}
+use Rattle.framing.specs.declared.frame.Heard.the-variants.{Byte, Waiting, BadStop}
 use Rattle.calls.specs.Answers.{bit}
 use Rattle.calls.specs.Resample.{Run, ran}
 
@@ -31,10 +33,11 @@ abbrev pub deframerIn : ℕ → ℕ → ℕ → ℕ → Deframer
 deframerIn in-frame count acc errors =
     record { «in_frame» = not (eqb in-frame 0); «bit_count» = count % 256; acc = acc % 256; errors = errors }
 
--- 1 and the byte where a bit yielded one, else twice 0
-abbrev pub heardNumbers : List ℕ → List ℕ
-heardNumbers [] = 0 ∷ 0 ∷ []
-heardNumbers (b ∷ more) = 1 ∷ b ∷ []
+-- 1 and the byte where a bit yielded one; 0 and 0 where it waits; 2 and 0 at a bad stop
+abbrev pub heardNumbers : Heard → List ℕ
+heardNumbers (Byte b) = 1 ∷ b ∷ []
+heardNumbers Waiting = 0 ∷ 0 ∷ []
+heardNumbers BadStop = 2 ∷ 0 ∷ []
 
 -- in a frame, bits so far, byte so far, errors
 abbrev pub deframerNumbers : Deframer → List ℕ
@@ -42,7 +45,7 @@ deframerNumbers d = bit (d .«in_frame») ∷ d .«bit_count» ∷ d .acc ∷ d 
 
 -- the six numbers of a bit's answer
 abbrev pub pushReply : Deframed → List ℕ
-pushReply p = heardNumbers (p .bytes) ++ deframerNumbers (p .state)
+pushReply p = heardNumbers (p .heard) ++ deframerNumbers (p .state)
 
 -- the answers of these bits, in order
 unfoldable pub pushReplies : Deframer → List Bool → List ℕ

@@ -7,7 +7,7 @@ use lib.Ieee.{Float}
 use Rattle.numeric.specs.If.{if_then_else_}
 use Rattle.refusal.specs.Refusals.{rateRefused, refused}
 use Rattle.modem.specs.Rx.{Receiver, receiver, freshReceiver, written, carrierOf, errorsOf}
-use Rattle.calls.specs.Answers.{numberIn, bit}
+use Rattle.calls.specs.Answers.{numberIn, countIn, bit}
 use Rattle.calls.specs.Roles.{roleOf}
 use Rattle.calls.specs.declared.receive.Call.{Call}
 
@@ -16,9 +16,11 @@ use Rattle.calls.specs.declared.receive.Call.{Call}
 abbrev pub relieved : ℕ → ℕ → Receiver → Receiver
 relieved b e r = receiver (r .demod) (drop b (r .waiting)) (drop e (r .logged)) (r .accepted)
 
--- what a call gives: the write's refusal, 0 where it is accepted; the bytes read; the events taken; and the receiver afterwards
+-- what a call gives: the write's refusal, 0 where it is accepted, and its bad stops, 0 where it is refused; the bytes read; the events taken; and the
+-- receiver afterwards
 pub record Called : Type 0 where
   pub number : ℕ
+  pub bad-stops : ℕ
   pub bytes : List ℕ
   pub events : List Bool
   pub state : Receiver
@@ -30,14 +32,15 @@ called r xs b e =
     let w = written r xs in
     record {
       number = numberIn (w .answer);
+      bad-stops = countIn (w .answer);
       bytes = take b (w .state .waiting);
       events = take e (w .state .logged);
       state = relieved b e (w .state);
     }
 
--- the five numbers of a call's answer: refusal, bytes read, events taken, carrier and framing errors
+-- the six numbers of a call's answer: refusal, bytes read, events taken, carrier, framing errors since fresh, and the write's bad stops
 abbrev pub callReply : Called → List ℕ
-callReply c = c .number ∷ length (c .bytes) ∷ length (c .events) ∷ bit (carrierOf (c .state)) ∷ errorsOf (c .state) ∷ []
+callReply c = c .number ∷ length (c .bytes) ∷ length (c .events) ∷ bit (carrierOf (c .state)) ∷ errorsOf (c .state) ∷ c .bad-stops ∷ []
 
 -- ---- a script: three numbers for each call
 -- of the first call: samples in the write, bytes to read at most, events to take at most
@@ -50,12 +53,12 @@ toRead script = getD script 1 0
 abbrev pub toTake : List ℕ → ℕ
 toTake script = getD script 2 0
 
--- the whole calls of a script; and those among them that have room for their answers, five numbers each
+-- the whole calls of a script; and those among them that have room for their answers, six numbers each
 abbrev pub callsIn : List ℕ → ℕ
 callsIn script = length script / 3
 
 abbrev pub callsFor : List ℕ → List ℕ → ℕ
-callsFor script ans = min (callsIn script) (length ans / 5)
+callsFor script ans = min (callsIn script) (length ans / 6)
 
 -- what a list of calls leaves: how many were run, and the lent bytes, events and answers
 pub record Run : Type 0 where
@@ -78,7 +81,7 @@ receivedFrom zero r xs script bs es ans = ran 0 bs es ans
 receivedFrom (suc k) r xs script bs es ans =
     let c = called r (take (toWrite script) xs) (min (toRead script) (length bs)) (min (toTake script) (length es)) in
     after 1 (c .bytes) (map bit (c .events)) (callReply c)
-    (receivedFrom k (c .state) (drop (toWrite script) xs) (drop 3 script) (drop (length (c .bytes)) bs) (drop (length (c .events)) es) (drop 5 ans))
+    (receivedFrom k (c .state) (drop (toWrite script) xs) (drop 3 script) (drop (length (c .bytes)) bs) (drop (length (c .events)) es) (drop 6 ans))
 
 -- a rate that `new` refuses runs no call and writes nothing
 unfoldable pub receiveRun : ℕ → ℕ → List Float → List ℕ → List ℕ → List ℕ → List ℕ → Run

@@ -39,7 +39,7 @@ abbrev pub callAt : Place → Call → List Float → List ℕ → List ℕ → 
 callAt p k xs bs es =
     called (receiverOf (p .state)) (take (k .samples) (drop (p .read) xs)) (min (k .bytes) (length (drop (p .bytes) bs))) (min (k .events) (length (drop (p .events) es)))
 
--- a call leads from p to q, and from bs and es to bs′ and es′, and to ans′, where the answers were before, five numbers, and behind
+-- a call leads from p to q, and from bs and es to bs′ and es′, and to ans′, where the answers were before, six numbers, and behind
 pub record Stepped (p q : Place) (k : Call) (xs : List Float) (bs bs′ es es′ before behind ans′ : List ℕ) : Type 0 where
   pub state : receiverOf (q .state) ≡ callAt p k xs bs es .state
   pub left : drop (q .read) xs ≡ drop (k .samples) (drop (p .read) xs)

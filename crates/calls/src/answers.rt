@@ -1,4 +1,4 @@
-// How a call's answer goes into a lent slice: two numbers of the resampler, the refusal and the count; and five of the receiver.
+// How a call's answer goes into a lent slice: two numbers of the resampler, the refusal and the count; and six of the receiver.
 use refusal::Acceptance;
 use refusal::Counted;
 ghost use mathlib.Core.Path.{_≡_};
@@ -38,13 +38,15 @@ pub(crate) fn tell(answers: &mut [u64], at: usize, t: Numbers)
     answers[at + 1] = t.count as u64;
 }
 
-// What a call of the receiver answers: the write's refusal, 0 where it is accepted; bytes read; events taken; carrier, 1 or 0; framing errors.
+// What a call of the receiver answers: the write's refusal, 0 where it is accepted; bytes read; events taken; carrier, 1 or 0; framing errors
+// since fresh; and the write's bad stops.
 pub struct Heard {
     pub number: u32,
     pub bytes: usize,
     pub events: usize,
     pub carrier: u32,
     pub errors: u32,
+    pub bad_stops: usize,
 }
 
 pub fn number_in(answer: Acceptance) -> u32
@@ -62,14 +64,15 @@ pub(crate) fn one_if(b: bool) -> u32
     if b { 1 } else { 0 }
 }
 
-// Writes the five numbers at `at`.
+// Writes the six numbers at `at`.
 pub(crate) fn tell_heard(answers: &mut [u64], at: usize, h: Heard)
-    requires { ⌜ at + 5 ≤ length (now answers) ⌝ }
-    ensures { λ _. ⌜ now (answers .exit) ≡ take at (now (answers .entry)) ++ (heardOf h ++ drop (at + 5) (now (answers .entry))) ⌝ }
+    requires { ⌜ at + 6 ≤ length (now answers) ⌝ }
+    ensures { λ _. ⌜ now (answers .exit) ≡ take at (now (answers .entry)) ++ (heardOf h ++ drop (at + 6) (now (answers .entry))) ⌝ }
 {
     answers[at] = h.number as u64;
     answers[at + 1] = h.bytes as u64;
     answers[at + 2] = h.events as u64;
     answers[at + 3] = h.carrier as u64;
     answers[at + 4] = h.errors as u64;
+    answers[at + 5] = h.bad_stops as u64;
 }

@@ -8,7 +8,7 @@ ghost use mathlib.Core.Path.{_≡_};
 ghost use mathlib.Core.List.{[], _∷_, _++_, map};
 ghost use Prim.Native.Nat.{_+_, _≤_};
 ghost use lib.ListN.{length, take, drop};
-ghost use Rattle.framing.specs.Frame.{frameOf, bytesOf, pushBit};
+ghost use Rattle.framing.specs.Frame.{frameOf, pushBit};
 ghost use Rattle.calls.specs.Answers.{bit};
 ghost use Rattle.calls.specs.Frames.{markIn, framesRun, deframerIn, heardNumbers, deframerNumbers, pushReply, deframeRun};
 ghost use Rattle.calls.specs.Resample.{ran};
@@ -50,28 +50,29 @@ pub fn frame_bytes(bytes: &[u8], bits: &mut [u8]) -> usize
 
 // ---- deframing
 
-// Whether a bit yielded a byte, 1 or 0, and the byte.
+// What a bit completed: 1 and the byte, 0 where it waits, 2 at a bad stop.
 struct Yielded {
-    any: u8,
+    kind: u8,
     byte: u8,
 }
 
 fn yield_of(heard: Heard) -> Yielded
-    ensures { λ r. ⌜ r .any ∷ r .byte ∷ [] ≡ heardNumbers (bytesOf heard) ⌝ }
+    ensures { λ r. ⌜ r .kind ∷ r .byte ∷ [] ≡ heardNumbers heard ⌝ }
 {
     match heard {
-        Heard::Byte(b) => Yielded { any: 1, byte: b },
-        Heard::Waiting => Yielded { any: 0, byte: 0 },
+        Heard::Byte(b) => Yielded { kind: 1, byte: b },
+        Heard::Waiting => Yielded { kind: 0, byte: 0 },
+        Heard::BadStop => Yielded { kind: 2, byte: 0 },
     }
 }
 
 // Writes the six numbers at `at`.
 fn tell_pushed(answers: &mut [u64], at: usize, y: Yielded, d: Deframer)
     requires { ⌜ at + 6 ≤ length (now answers) ⌝ }
-    ensures { λ _. ⌜ now (answers .exit) ≡ take at (now (answers .entry)) ++ ((y .any ∷ y .byte ∷ deframerNumbers d) ++ drop (at + 6) (now (answers .entry))) ⌝ }
+    ensures { λ _. ⌜ now (answers .exit) ≡ take at (now (answers .entry)) ++ ((y .kind ∷ y .byte ∷ deframerNumbers d) ++ drop (at + 6) (now (answers .entry))) ⌝ }
 {
     let in_frame = one_if(d.in_frame);
-    answers[at] = y.any as u64;
+    answers[at] = y.kind as u64;
     answers[at + 1] = y.byte as u64;
     answers[at + 2] = in_frame as u64;
     answers[at + 3] = d.bit_count as u64;

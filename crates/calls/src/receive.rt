@@ -1,6 +1,6 @@
 // Lists of calls of the receiver.
 use crate::answers::Heard;
-use crate::answers::number_in;
+use crate::answers::numbers_of;
 use crate::answers::one_if;
 use crate::answers::tell_heard;
 use crate::events::event_byte;
@@ -57,18 +57,20 @@ pub fn make_call(rx: Rx, samples: &[f32], bytes: &mut [u8], events: &mut [u8]) -
         (now (bytes .entry)) (now (events .entry)) (r .answer) (r .state) (now (bytes .exit)) (now (events .exit)) ⌝ }
 {
     let w = rx.write(samples);
-    let refusal = w.answer;
+    let given = w.answer;
+    let numbers = numbers_of(given);
     let heard = w.state;
     let d = heard.read(bytes);
     let read = d.state;
     let t = take_events(read, events);
     let state = t.state;
     let answer = Heard {
-        number: number_in(refusal),
+        number: numbers.number,
         bytes: d.count,
         events: t.count,
         carrier: one_if(state.carrier_detected()),
         errors: state.framing_errors(),
+        bad_stops: numbers.count,
     };
     Called { answer, state }
 }
@@ -88,7 +90,7 @@ pub struct Call {
     pub events: u32,
 }
 
-// One call, and its five numbers at `at` of the answers.
+// One call, and its six numbers at `at` of the answers.
 fn one_call(
     p: Place,
     k: Call,
@@ -98,10 +100,10 @@ fn one_call(
     answers: &mut [u64],
     at: usize,
 ) -> Place
-    requires { ⌜ Within p (now samples) (now bytes) (now events) × (at + 5 ≤ length (now answers)) ⌝ }
+    requires { ⌜ Within p (now samples) (now bytes) (now events) × (at + 6 ≤ length (now answers)) ⌝ }
     ensures { λ r. ⌜
         Stepped p r k (now (samples .entry)) (now (bytes .entry)) (now (bytes .exit)) (now (events .entry))
-        (now (events .exit)) (take at (now (answers .entry))) (drop (at + 5) (now (answers .entry))) (now (answers .exit)) ⌝ }
+        (now (events .exit)) (take at (now (answers .entry))) (drop (at + 6) (now (answers .entry))) (now (answers .exit)) ⌝ }
     ensures { λ r. ⌜ Within r (now (samples .entry)) (now (bytes .exit)) (now (events .exit)) ⌝ }
 {
     let state = p.state;
@@ -143,7 +145,7 @@ fn all_calls(
         ≡ receivedFrom (callsFor (now (script .entry)) (now (answers .entry)))
         (receiverOf state) (now (samples .entry)) (now (script .entry)) (now (bytes .entry)) (now (events .entry)) (now (answers .entry)) ⌝ }
 {
-    let calls = smaller(script.len() / 3, answers.len() / 5);
+    let calls = smaller(script.len() / 3, answers.len() / 6);
     let mut place = Place {
         state,
         read: 0,
@@ -157,7 +159,7 @@ fn all_calls(
             bytes: script[3 * i + 1],
             events: script[3 * i + 2],
         };
-        place = one_call(place, k, samples, bytes, events, answers, 5 * i);
+        place = one_call(place, k, samples, bytes, events, answers, 6 * i);
         i += 1;
     }
     calls

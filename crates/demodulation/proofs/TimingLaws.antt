@@ -1,15 +1,13 @@
 -- Symbol timing and the slicer: where a boundary is, what the phase is behind it, and which bit the deframer gets. Assumes nothing.
-use Prim.Native.Nat.{_≤_}
 use mathlib.Core.Path.{_≡_, refl, sym, ap, _∙_}
 use mathlib.Core.Bool.{Bool, true, false, _&&_, true≢false}
 use mathlib.Core.List.{append-nil}
+use native.Mathlib.Nat.{add-zero}
 use native.Mathlib.Omega.{arith}
 use lib.Ieee.{Float}
-use lib.ListN.{length}
 use Rattle.numeric.specs.F64.{_<ᶠ_, _≤ᶠ_, zero64, half64, one64}
 use Rattle.numeric.specs.If.{if_then_else_}
-use Rattle.framing.specs.Frame.{waiting, pushBit, heard, after}
-use Rattle.framing.proofs.FramingLaws.{one-byte}
+use Rattle.framing.specs.Frame.{bytesOf, badStopsOf, Deframed, waiting, pushBit, yielded, heard, badStops, after}
 use Rattle.framing.specs.declared.frame.Deframer.{Deframer}
 use Rattle.demodulation.specs.Timing.{timing, nextPhase, crossed, residueOf, bounded, ticked, sliced, slicedBits}
 use Rattle.demodulation.specs.Demod.{Sliced}
@@ -67,15 +65,17 @@ module _ (d : Deframer) (soft : Float) where
   keeps-half-byte false = refl
 
   -- the deframer gets the bit, if there is one
-  pub slice-bits : (boundary up : Bool) → Sliced d (slicedBits boundary up soft) (sliced d boundary up soft .state) (sliced d boundary up soft .bytes) 1
-  unfolding sliced slicedBits heard after
-  slice-bits true true = record { few = omega arith; left = refl; yields = append-nil (pushBit d (zero64 ≤ᶠ soft) .bytes) }
-  slice-bits true false = record { few = omega arith; left = refl; yields = refl }
-  slice-bits false up = record { few = omega arith; left = refl; yields = refl }
+  pub slice-bits : (boundary up : Bool)
+      → Sliced d (slicedBits boundary up soft) (sliced d boundary up soft .state) (bytesOf (sliced d boundary up soft .heard)) (badStopsOf (sliced d boundary up soft .heard)) 1
+  unfolding sliced slicedBits heard badStops after
+  slice-bits true true =
+      record { few = omega arith; left = refl; yields = append-nil (yielded d (zero64 ≤ᶠ soft)); bad-stops = add-zero (badStopsOf (pushBit d (zero64 ≤ᶠ soft) .heard)) }
+  slice-bits true false = record { few = omega arith; left = refl; yields = refl; bad-stops = refl }
+  slice-bits false up = record { few = omega arith; left = refl; yields = refl; bad-stops = refl }
 
-  -- at most one byte a sample
-  pub slice-one : (boundary up : Bool) → length (sliced d boundary up soft .bytes) ≤ 1
+  -- what holds of no bit, and of every bit, holds of what is sliced
+  pub slice-either : (P : Deframed → Type 0) → P (waiting d) → ((bit : Bool) → P (pushBit d bit)) → (boundary up : Bool) → P (sliced d boundary up soft)
   unfolding sliced
-  slice-one true true = one-byte d (zero64 ≤ᶠ soft)
-  slice-one true false = omega arith
-  slice-one false up = omega arith
+  slice-either P w g true true = g (zero64 ≤ᶠ soft)
+  slice-either P w g true false = w
+  slice-either P w g false up = w

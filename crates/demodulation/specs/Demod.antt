@@ -1,20 +1,21 @@
 -- rx.rs at 8,000 Hz, operation by operation: what one sample makes of the state, and what is heard in a list of samples. Assumes nothing.
 use Prim.Native.Nat.{ℕ, _<_, _+_, _≤_}
 use mathlib.Core.Bool.{Bool, true, false, _&&_, _||_}
-use mathlib.Core.List.{List, [], _∷_, _++_, map}
+use mathlib.Core.List.{List, [], _∷_, _++_}
 use lib.Ieee.{Float}
 use Rattle.numeric.specs.F64.{whole}
 use Rattle.numeric.specs.If.{if_then_else_}
 use Rattle.refusal.specs.Refusals.{dspRate}
 use Rattle.bell103.specs.Roles.{otherRole, tonesOf}
-use Rattle.framing.specs.Frame.{freshDeframer, heard, after}
-use Rattle.framing.specs.Framing.{badStops}
+use Rattle.framing.specs.Frame.{freshDeframer, heard, badStops, after}
 use Rattle.demodulation.specs.Correlation.{places, ringsOf, multiplied, advanced, correlated, freshRing, freshCorrelator}
 use Rattle.demodulation.specs.Timing.{ticked, sliced, slicedBits, freshTiming}
 use Rattle.demodulation.specs.Carrier.{freshDetector, updated, BlockAnswer, goesOn, endsWith, freshDominance, dominanceStep}
 use Rattle.bell103.specs.declared.Role.{Role}
 use Rattle.bell103.specs.declared.TonePair.{TonePair}
 use Rattle.framing.specs.declared.frame.Deframer.{Deframer}
+use Rattle.framing.specs.declared.frame.Heard.{Heard}
+use Rattle.framing.specs.declared.frame.Heard.the-variants.{Byte, Waiting, BadStop}
 use Rattle.happenings.specs.declared.happening.Happening.{Happening}
 use Rattle.happenings.specs.declared.happening.Happening.the-variants as happening
 use Rattle.demodulation.specs.declared.kind.Kind.{Kind}
@@ -61,10 +62,10 @@ pub record Demodulator : Type 0 where
   pub timing : Timing
   pub deframer : Deframer
 
--- the state after a sample, and what came of it: the byte that it completed, one or none, and a change of the report
+-- the state after a sample, and what came of it: the deframer's answer to its bit, waiting where it has none, and a change of the report
 pub record Step : Type 0 where
   pub state : Demodulator
-  pub bytes : List ℕ
+  pub heard : Heard
   pub event : Event
 
 -- "products, phases, ring place; dominance": a block that this sample ends has its say in this step
@@ -101,7 +102,7 @@ finished d carrier latch soft =
             timing = t .state;
             deframer = bit .state;
           };
-      bytes = bit .bytes;
+      heard = bit .heard;
       event = eventOf (d .latch .qualified) (latch .qualified);
     }
 
@@ -115,7 +116,7 @@ decoded d =
 
 -- "nothing more until 27 samples are in"
 unfoldable pub stepOf : Demodulator → Float → Step
-stepOf d s = if fed d s .corr .filled then decoded (fed d s) else record { state = fed d s; bytes = []; event = Nothing }
+stepOf d s = if fed d s .corr .filled then decoded (fed d s) else record { state = fed d s; heard = Waiting; event = Nothing }
 
 -- ---- a fresh one
 abbrev pub freshOn : Kind → TonePair → TonePair → Demodulator
@@ -149,21 +150,23 @@ changeOf Nothing = []
 changeOf CarrierUp = happening.Up ∷ []
 changeOf CarrierDown = happening.Down ∷ []
 
--- a byte that a bit completed
-abbrev pub wordOf : List ℕ → List Happening
-wordOf bytes = map happening.Byte bytes
+-- what a bit completed
+abbrev pub wordOf : Heard → List Happening
+wordOf (Byte b) = happening.Byte b ∷ []
+wordOf Waiting = []
+wordOf BadStop = happening.BadStop ∷ []
 
 -- "detector; latch; event; timing; slice": in this order
-abbrev pub happensAt : Bool → Bool → Event → List ℕ → List Happening
-happensAt was up event bytes = fallOf was up ++ (changeOf event ++ wordOf bytes)
+abbrev pub happensAt : Bool → Bool → Event → Heard → List Happening
+happensAt was up event heard = fallOf was up ++ (changeOf event ++ wordOf heard)
 
 -- of a step from the state d
 abbrev pub happens : Demodulator → Step → List Happening
-happens d x = happensAt (d .carrier .detected) (x .state .carrier .detected) (x .event) (x .bytes)
+happens d x = happensAt (d .carrier .detected) (x .state .carrier .detected) (x .event) (x .heard)
 
 -- ---- a list of samples
--- the state after a list of samples, and what they are heard as: all that happened, in order. The bytes, the losses and the changes of the
--- report are parts of that one list (crate happenings: bytesIn, changesIn)
+-- the state after a list of samples, and what they are heard as: all that happened, in order. The bytes, the bad stops, the losses and the
+-- changes of the report are parts of that one list (crate happenings: bytesIn, badStopsIn, changesIn)
 pub record Hearing : Type 0 where
   pub after : Demodulator
   pub happenings : List Happening
@@ -206,15 +209,13 @@ unfoldable pub bitsIn : Demodulator → List Float → List Bool
 bitsIn d [] = []
 bitsIn d (s ∷ ss) = bitsAt d s ++ bitsIn (stepOf d s .state) ss
 
--- how many of them are spaces in stop position
-abbrev pub badStopsIn : Demodulator → List Float → ℕ
-badStopsIn d ss = badStops (d .deframer) (bitsIn d ss)
-
--- "deframes the sliced bits": the deframer before these bits and after them, and the bytes that they yield; n samples made them
-pub record Sliced (d : Deframer) (bits : List Bool) (e : Deframer) (bytes : List ℕ) (n : ℕ) : Type 0 where
+-- "deframes the sliced bits": the deframer before these bits and after them, the bytes that they yield and how many are bad stops; n samples
+-- made them
+pub record Sliced (d : Deframer) (bits : List Bool) (e : Deframer) (bytes : List ℕ) (bad n : ℕ) : Type 0 where
   pub few : length bits ≤ n
   pub left : after d bits ≡ e
   pub yields : heard d bits ≡ bytes
+  pub bad-stops : badStops d bits ≡ bad
 
 -- ---- "nothing more until 27 samples are in"
 -- these samples bring nothing, and leave detector, latch, timing and deframer as they were

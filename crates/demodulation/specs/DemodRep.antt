@@ -1,7 +1,6 @@
 -- How the code holds what specs/Demod.antt speaks of: the rings apart from the rest, which is small. Assumes nothing.
 use mathlib.Core.Path.{_≡_}
 use lib.Ieee.{Float}
-use Rattle.framing.specs.Frame.{bytesOf}
 use Rattle.demodulation.specs.Correlation.{multiplied}
 use Rattle.demodulation.specs.Demod as plain
 use Rattle.demodulation.specs.declared.carrier.CarrierDetector.{CarrierDetector}
@@ -30,12 +29,12 @@ demodulator rings c =
 abbrev pub demodulatorOf : Demodulator → plain.Demodulator
 demodulatorOf d = demodulator (d .rings) (d .core)
 
--- a step's answer, put together with the rings; its byte, one or none
+-- a step's answer, put together with the rings
 abbrev pub stepWith : Rings → CoreStep → plain.Step
-stepWith rings x = record { state = demodulator rings (x .core); bytes = bytesOf (x .heard); event = x .event }
+stepWith rings x = record { state = demodulator rings (x .core); heard = x .heard; event = x .event }
 
 abbrev pub stepped : Step → plain.Step
-stepped x = record { state = demodulatorOf (x .state); bytes = bytesOf (x .heard); event = x .event }
+stepped x = record { state = demodulatorOf (x .state); heard = x .heard; event = x .event }
 
 -- the core after "products, phases, ring place; dominance", and after "event; timing; slice", whatever the rings are
 abbrev pub Feeds : Core → Float → Core → Type 0

@@ -8,19 +8,20 @@ ghost use mathlib.Core.Path.{_≡_};
 ghost use mathlib.Core.List.{[], _∷_};
 ghost use Prim.Native.Nat.{_≤_, _<_, _+_};
 ghost use lib.ListN.{length, take};
-ghost use Rattle.framing.specs.Frame.{bytesOf};
 ghost use Rattle.happenings.specs.Happening.{happeningOf};
 ghost use Rattle.happenings.specs.Codes.{mostSteps, mostCodes, Codes};
 ghost use Rattle.demodulation.specs.Demod.{fallOf, changeOf, wordOf, happensAt};
 ghost use Rattle.demodulation.specs.DemodRep.{DemodSound};
 ghost use Rattle.demodulation.specs.Listening.{Put, Hearable, HearsInto};
 
-// The codes of a loss, and of a change of the report; a byte is its own.
-const LOST: u16 = 256;
+// The codes of a bad stop, of a loss, and of a change of the report; a byte is its own.
+const BAD_STOP: u16 = 256;
 
-const UP: u16 = 257;
+const LOST: u16 = 257;
 
-const DOWN: u16 = 258;
+const UP: u16 = 258;
+
+const DOWN: u16 = 259;
 
 // One more code, behind the first n. Answers how many there are.
 fn put(codes: &mut [u16; 2052], n: usize, code: u16) -> usize
@@ -63,10 +64,10 @@ fn byte_code(b: u8) -> u16
     b as u16
 }
 
-// A byte that a bit completed.
+// What a bit completed.
 fn put_word(codes: &mut [u16; 2052], n: usize, heard: Heard) -> usize
-    requires { ⌜ (n + length (wordOf (bytesOf heard)) ≤ mostCodes) × Codes (now codes) ⌝ }
-    ensures { λ r. ⌜ Put n (now (codes .entry)) (wordOf (bytesOf heard)) r (now (codes .exit)) ⌝ }
+    requires { ⌜ (n + length (wordOf heard) ≤ mostCodes) × Codes (now codes) ⌝ }
+    ensures { λ r. ⌜ Put n (now (codes .entry)) (wordOf heard) r (now (codes .exit)) ⌝ }
 {
     match heard {
         Heard::Byte(b) => {
@@ -74,6 +75,7 @@ fn put_word(codes: &mut [u16; 2052], n: usize, heard: Heard) -> usize
             put(codes, n, code)
         }
         Heard::Waiting => n,
+        Heard::BadStop => put(codes, n, BAD_STOP),
     }
 }
 
@@ -86,8 +88,8 @@ fn put_step(
     event: Event,
     heard: Heard,
 ) -> usize
-    requires { ⌜ (n + length (happensAt was up event (bytesOf heard)) ≤ mostCodes) × Codes (now codes) ⌝ }
-    ensures { λ r. ⌜ Put n (now (codes .entry)) (happensAt was up event (bytesOf heard)) r (now (codes .exit)) ⌝ }
+    requires { ⌜ (n + length (happensAt was up event heard) ≤ mostCodes) × Codes (now codes) ⌝ }
+    ensures { λ r. ⌜ Put n (now (codes .entry)) (happensAt was up event heard) r (now (codes .exit)) ⌝ }
 {
     let a = put_fall(codes, n, was, up);
     let b = put_change(codes, a, event);

@@ -42,10 +42,13 @@ fn heard(h: Heard) {
             print::text(b", ");
         }
         Heard::Waiting => {}
+        Heard::BadStop => {
+            print::text(b"bad stop, ");
+        }
     }
 }
 
-// Pushes one bit, and prints the byte that it completes.
+// Pushes one bit, and prints the byte or the bad stop that it completes.
 fn push(d: Deframer, mark: bool) -> Deframer {
     let p = d.push_bit(mark);
     let h = p.heard;

@@ -9,23 +9,28 @@ use lib.Dec.{T, ltb, ltb→lt, eqb, eqb→eq}
 use lib.ListN.{length, length-append}
 use Rattle.numeric.specs.If.{if_then_else_}
 use Rattle.framing.specs.declared.frame.Deframer.{Deframer}
-use Rattle.framing.specs.Frame.{mark, space, frameOf, freshDeframer, Idle, oneMore, mostErrors, idleBit, dataBit, stopBit, badStop, Deframed, pushBit, heard, after}
+use Rattle.framing.specs.Frame.{mark, space, frameOf, freshDeframer, Idle, oneMore, mostErrors, idleBit, dataBit, stopBit, badStop, bytesOf, badStopsOf, Deframed, pushBit, yielded, heard, badStops, after}
 use Rattle.framing.proofs.FrameLaws.{push-idle, push-data, push-stop}
 use Rattle.numeric.proofs.Tested.{both-left, both-right, at-number, at-bits, sameBits, same-bits}
-use Rattle.framing.specs.Framing.{Sent, marks, framesOf, line, bytesSent, AreBytes, HeardAs, AtStop, SpaceAtStop, held, isBadStop, badStops}
+use Rattle.framing.specs.Framing.{Sent, marks, framesOf, line, bytesSent, AreBytes, HeardAs, AtStop, SpaceAtStop, held, isBadStop, Told}
 
 -- ---- one list of bits after another
 pub heard-append : (d : Deframer) (xs ys : List Bool) → heard d (xs ++ ys) ≡ heard d xs ++ heard (after d xs) ys
 unfolding heard after
 heard-append d [] ys = refl
 heard-append d (x ∷ xs) ys =
-    ap (λ (l : List ℕ). pushBit d x .bytes ++ l) (heard-append (pushBit d x .state) xs ys)
-    ∙ sym (append-assoc (pushBit d x .bytes) (heard (pushBit d x .state) xs) (heard (after (pushBit d x .state) xs) ys))
+    ap (λ (l : List ℕ). yielded d x ++ l) (heard-append (pushBit d x .state) xs ys)
+    ∙ sym (append-assoc (yielded d x) (heard (pushBit d x .state) xs) (heard (after (pushBit d x .state) xs) ys))
 
 pub after-append : (d : Deframer) (xs ys : List Bool) → after d (xs ++ ys) ≡ after (after d xs) ys
 unfolding after
 after-append d [] ys = refl
 after-append d (x ∷ xs) ys = after-append (pushBit d x .state) xs ys
+
+pub bads-append : (d : Deframer) (xs ys : List Bool) → badStops d (xs ++ ys) ≡ badStops d xs + badStops (after d xs) ys
+unfolding badStops after
+bads-append d [] ys = omega arith
+bads-append d (x ∷ xs) ys = omega (arith, bads-append (pushBit d x .state) xs ys)
 
 pub frames-length : (bs : List ℕ) → length (framesOf bs) ≡ 10 * length bs
 unfolding framesOf
@@ -38,6 +43,7 @@ joined d xs ys bs cs x y =
     record {
       same = heard-append d xs ys ∙ rw (x .same, y .same);
       no-error = rw (after-append d xs ys) (y .no-error ∙ x .no-error);
+      no-bad-stop = bads-append d xs ys ∙ rw (x .no-bad-stop, y .no-bad-stop);
       idle = rw (after-append d xs ys) (y .idle);
     }
 
@@ -49,12 +55,12 @@ idle-is : (d : Deframer) → Idle d → d ≡ idleWith (d .«bit_count») (d .ac
 idle-is d p = ap (λ (f : Bool). record { «in_frame» = f; «bit_count» = d .«bit_count»; acc = d .acc; errors = d .errors }) p
 
 mark-is : (n a e : ℕ) → HeardAs (idleWith n a e) (mark ∷ []) []
-unfolding heard after pushBit idleBit
-mark-is n a e = record { same = refl; no-error = refl; idle = refl }
+unfolding heard badStops after pushBit idleBit
+mark-is n a e = record { same = refl; no-error = refl; no-bad-stop = refl; idle = refl }
 
 pub marks-heard : (d : Deframer) → Idle d → (n : ℕ) → HeardAs d (marks n) []
-unfolding heard after
-marks-heard d p zero = record { same = refl; no-error = refl; idle = p }
+unfolding heard badStops after
+marks-heard d p zero = record { same = refl; no-error = refl; no-bad-stop = refl; idle = p }
 marks-heard d p (suc n) =
     let m : HeardAs d (mark ∷ []) [] = rw (idle-is d p) (mark-is (d .«bit_count») (d .acc) (d .errors)) in
     joined d (mark ∷ []) (marks n) [] [] m (marks-heard (after d (mark ∷ [])) (m .idle) n)
@@ -65,15 +71,15 @@ unfolding after pushBit idleBit dataBit stopBit badStop
 frame-held n a e b h = eqb→eq _ b (at-number 256 (λ k. eqb (after (idleWith n a e) (frameOf k) .acc) k) tt b h)
 
 frame-is : (n a e : ℕ) (b : ℕ) → b < 256 → HeardAs (idleWith n a e) (frameOf b) (b ∷ [])
-unfolding heard after pushBit idleBit dataBit stopBit badStop
-frame-is n a e b h = record { same = ap (λ (x : ℕ). x ∷ []) (frame-held n a e b h); no-error = refl; idle = refl }
+unfolding heard badStops after pushBit idleBit dataBit stopBit badStop
+frame-is n a e b h = record { same = ap (λ (x : ℕ). x ∷ []) (frame-held n a e b h); no-error = refl; no-bad-stop = refl; idle = refl }
 
 pub frame-heard : (d : Deframer) → Idle d → (b : ℕ) → b < 256 → HeardAs d (frameOf b) (b ∷ [])
 frame-heard d p b h = rw (idle-is d p) (frame-is (d .«bit_count») (d .acc) (d .errors) b h)
 
 pub frames-heard : (d : Deframer) → Idle d → (bs : List ℕ) → AreBytes bs → HeardAs d (framesOf bs) bs
-unfolding framesOf heard after
-frames-heard d p [] _ = record { same = refl; no-error = refl; idle = p }
+unfolding framesOf heard badStops after
+frames-heard d p [] _ = record { same = refl; no-error = refl; no-bad-stop = refl; idle = p }
 frames-heard d p (b ∷ bs) h =
     let f = frame-heard d p b (h .0) in
     joined d (frameOf b) (framesOf bs) (b ∷ []) bs f (frames-heard (after d (frameOf b)) (f .idle) bs (h .1))
@@ -112,14 +118,15 @@ heard-frame d p l n b bs e =
     (subst (λ (r : List ℕ). T (framed r l)) (ap (λ (x : Deframer). heard x l) (sym (idle-is d p)) ∙ e) (ten-bits (d .«bit_count») (d .acc) (d .errors) l n))
 
 pub bad-stop : (d : Deframer) → AtStop d → SpaceAtStop d
-unfolding heard after stopBit badStop
+unfolding heard badStops after stopBit badStop
 bad-stop d at =
     let e : pushBit d space ≡ badStop d = push-stop d space (at .0) (at .1) in
     let i : Idle (after d (space ∷ [])) = ap (λ (x : Deframed). x .state .«in_frame») e in
     record {
       one-error = ap (λ (x : Deframed). x .state .errors) e;
       idle = i;
-      nothing = ap (λ (x : Deframed). x .bytes ++ []) e;
+      nothing = ap (λ (x : Deframed). bytesOf (x .heard) ++ []) e;
+      told = ap (λ (x : Deframed). badStopsOf (x .heard) + 0) e;
       starts-nothing = marks-heard (after d (space ∷ [])) i;
     }
 
@@ -146,22 +153,23 @@ held-most d = go (d .«in_frame»)
 -- ---- what a bit spends
 -- ten bits for a byte or a bad stop: what a bit completes, and the bits held behind it; and the error count, which is one more at a bad stop alone
 record Spends (d : Deframer) (bad : Bool) (x : Deframed) : Type 0 where
-  few : 10 * (length (x .bytes) + (if bad then 1 else 0)) + held (x .state) ≤ held d + 1
+  answer : badStopsOf (x .heard) ≡ (if bad then 1 else 0)
+  few : 10 * (length (bytesOf (x .heard)) + badStopsOf (x .heard)) + held (x .state) ≤ held d + 1
   errors : x .state .errors ≡ (if bad then oneMore (d .errors) else d .errors)
 
 idle-spends : (d : Deframer) (bit : Bool) → Spends d false (idleBit d bit)
 unfolding idleBit
-idle-spends d true = record { few = omega arith; errors = refl }
-idle-spends d false = record { few = omega arith; errors = refl }
+idle-spends d true = record { answer = refl; few = omega arith; errors = refl }
+idle-spends d false = record { answer = refl; few = omega arith; errors = refl }
 
 data-spends : (d : Deframer) (bit : Bool) → d .«in_frame» ≡ true → d .«bit_count» < 8 → Spends d false (dataBit d bit)
 unfolding dataBit
-data-spends d bit e h = record { few = omega (arith, held-frame d e, held-frame (dataBit d bit .state) e); errors = refl }
+data-spends d bit e h = record { answer = refl; few = omega (arith, held-frame d e, held-frame (dataBit d bit .state) e); errors = refl }
 
 stop-spends : (d : Deframer) (bit : Bool) → d .«in_frame» ≡ true → 8 ≤ d .«bit_count» → Spends d (not bit) (stopBit d bit)
 unfolding stopBit badStop
-stop-spends d true e h = record { few = omega (arith, held-frame d e); errors = refl }
-stop-spends d false e h = record { few = omega (arith, held-frame d e); errors = refl }
+stop-spends d true e h = record { answer = refl; few = omega (arith, held-frame d e); errors = refl }
+stop-spends d false e h = record { answer = refl; few = omega (arith, held-frame d e); errors = refl }
 
 bad-is : (d : Deframer) (bit f t : Bool) → d .«in_frame» ≡ f → ltb (d .«bit_count») 8 ≡ t → isBadStop d bit ≡ f && (not t && not bit)
 bad-is d bit f t p q = ap (λ (x : Bool). x && (not (ltb (d .«bit_count») 8) && not bit)) p ∙ ap (λ (x : Bool). f && (not x && not bit)) q
@@ -177,8 +185,17 @@ bit-spends d bit = either (d .«in_frame») refl
     either false e = rw (push-idle d bit e, bad-is d bit false _ e refl) (idle-spends d bit)
     either true e = within e (ltb (d .«bit_count») 8) refl
 
+-- a bad stop is answered at a space in stop position and nowhere else, and the error count grows, or holds at its most, there alone
+pub told : (d : Deframer) (bit : Bool) → Told d bit (pushBit d bit)
+told d bit = record { answer = bit-spends d bit .answer; errors = bit-spends d bit .errors }
+
+-- ten bits for a byte or a bad stop
+pub bit-few : (d : Deframer) (bit : Bool)
+    → 10 * (length (yielded d bit) + badStopsOf (pushBit d bit .heard)) + held (pushBit d bit .state) ≤ held d + 1
+bit-few d bit = bit-spends d bit .few
+
 -- at most one byte a bit
-pub one-byte : (d : Deframer) (bit : Bool) → length (pushBit d bit .bytes) ≤ 1
+pub one-byte : (d : Deframer) (bit : Bool) → length (yielded d bit) ≤ 1
 one-byte d bit = omega (arith, bit-spends d bit .few, held-most d)
 
 -- ten bits make a byte or a bad stop: from any state, ten for each are at most the bits held before and the bits pushed
@@ -186,7 +203,7 @@ pub completed-few : (d : Deframer) (bits : List Bool) → 10 * (length (heard d 
 unfolding heard badStops after
 completed-few d [] = omega arith
 completed-few d (bit ∷ bits) =
-    rw (length-append (pushBit d bit .bytes) (heard (pushBit d bit .state) bits))
+    rw (length-append (yielded d bit) (heard (pushBit d bit .state) bits))
     (omega (arith, bit-spends d bit .few, completed-few (pushBit d bit .state) bits))
 
 -- bytes alone
@@ -194,28 +211,35 @@ pub heard-few : (d : Deframer) (bits : List Bool) → 10 * length (heard d bits)
 heard-few d bits = omega (arith, completed-few d bits)
 
 -- ---- the error count
-counts-one : (bad : Bool) (e f n : ℕ) → f ≡ (if bad then oneMore e else e) → e + ((if bad then 1 else 0) + n) ≤ mostErrors → f + n ≡ e + ((if bad then 1 else 0) + n)
-counts-one true e f n p h = omega arith
-counts-one false e f n p h = omega arith
+counts-one : (bad : Bool) (e f k : ℕ) → k ≡ (if bad then 1 else 0) → f ≡ (if bad then oneMore e else e) → e + k ≤ mostErrors → f ≡ e + k
+counts-one true e f k q p h = omega arith
+counts-one false e f k q p h = omega arith
 
-counts-most : (bad : Bool) (e f : ℕ) → f ≡ (if bad then oneMore e else e) → f ≤ e + (if bad then 1 else 0)
-counts-most true e f p = omega arith
-counts-most false e f p = omega arith
+counts-most : (bad : Bool) (e f k : ℕ) → k ≡ (if bad then 1 else 0) → f ≡ (if bad then oneMore e else e) → f ≤ e + k
+counts-most true e f k q p = omega arith
+counts-most false e f k q p = omega arith
 
--- where it has not held, it has grown by the number of bad stops
+-- of one bit: where the count has not held, it has grown by the bad stop, if the bit is one
+pub bit-errors : (d : Deframer) (bit : Bool) → d .errors + badStopsOf (pushBit d bit .heard) ≤ mostErrors
+    → pushBit d bit .state .errors ≡ d .errors + badStopsOf (pushBit d bit .heard)
+bit-errors d bit = counts-one (isBadStop d bit) (d .errors) _ _ (bit-spends d bit .answer) (bit-spends d bit .errors)
+
+-- it never grows by more
+pub bit-errors-most : (d : Deframer) (bit : Bool) → pushBit d bit .state .errors ≤ d .errors + badStopsOf (pushBit d bit .heard)
+bit-errors-most d bit = counts-most (isBadStop d bit) (d .errors) _ _ (bit-spends d bit .answer) (bit-spends d bit .errors)
+
+-- of a list of bits
 pub errors-are : (d : Deframer) (bits : List Bool) → d .errors + badStops d bits ≤ mostErrors → after d bits .errors ≡ d .errors + badStops d bits
 unfolding badStops after
 errors-are d [] h = omega arith
 errors-are d (bit ∷ bits) h =
-    let e = counts-one (isBadStop d bit) (d .errors) (pushBit d bit .state .errors) (badStops (pushBit d bit .state) bits) (bit-spends d bit .errors) h in
-    errors-are (pushBit d bit .state) bits (omega arith) ∙ e
+    let e = bit-errors d bit (omega arith) in
+    errors-are (pushBit d bit .state) bits (omega arith) ∙ omega arith
 
--- it never grows by more
 pub errors-most : (d : Deframer) (bits : List Bool) → after d bits .errors ≤ d .errors + badStops d bits
 unfolding badStops after
 errors-most d [] = omega arith
-errors-most d (bit ∷ bits) =
-    omega (arith, counts-most (isBadStop d bit) (d .errors) (pushBit d bit .state .errors) (bit-spends d bit .errors), errors-most (pushBit d bit .state) bits)
+errors-most d (bit ∷ bits) = omega (arith, bit-errors-most d bit, errors-most (pushBit d bit .state) bits)
 
 -- from fresh, by fewer bits than ten for each error that fits: it never held, and is the number of bad stops
 pub errors-fresh : (bits : List Bool) → length bits < 10 * mostErrors

@@ -8,7 +8,7 @@ use lib.Bits.{bitOr}
 use Rattle.numeric.specs.If.{if_then_else_}
 use Rattle.framing.specs.declared.frame.Deframer.{Deframer}
 use Rattle.framing.specs.declared.frame.Heard.{Heard}
-use Rattle.framing.specs.declared.frame.Heard.the-variants.{Byte, Waiting}
+use Rattle.framing.specs.declared.frame.Heard.the-variants.{Byte, Waiting, BadStop}
 use Rattle.framing.specs.declared.frame.Pushed.{Pushed}
 
 -- a bit on the line: mark is binary 1
@@ -34,23 +34,30 @@ freshDeframer = record { «in_frame» = false; «bit_count» = 0; acc = 0; error
 abbrev pub Idle : Deframer → Type 0
 Idle d = d .«in_frame» ≡ false
 
--- what a bit gives: the deframer after it, and the byte that it completes, one or none
+-- what a bit gives: the deframer after it, and its answer: "byte, waiting or bad stop"
 pub record Deframed : Type 0 where
   pub state : Deframer
-  pub bytes : List ℕ
+  pub heard : Heard
 
--- the byte that each case of an answer gives: one, or none
+-- document 01's reading of each answer: a byte, or none. "bad stop and waiting both read as no byte"
 abbrev pub bytesOf : Heard → List ℕ
 bytesOf (Byte b) = b ∷ []
 bytesOf Waiting = []
+bytesOf BadStop = []
 
--- what the code answers, read so
+-- the bad stops in an answer: one, or none
+abbrev pub badStopsOf : Heard → ℕ
+badStopsOf (Byte b) = 0
+badStopsOf Waiting = 0
+badStopsOf BadStop = 1
+
+-- what the code answers
 abbrev pub deframed : Pushed → Deframed
-deframed x = record { state = x .state; bytes = bytesOf (x .heard) }
+deframed x = record { state = x .state; heard = x .heard }
 
--- this state, and no byte
+-- this state, and nothing completed
 abbrev pub waiting : Deframer → Deframed
-waiting d = record { state = d; bytes = [] }
+waiting d = record { state = d; heard = Waiting }
 
 -- a bit while idle: a space starts a frame, a mark changes nothing
 unfoldable pub idleBit : Deframer → Bool → Deframed
@@ -86,12 +93,12 @@ ended d e = record { «in_frame» = false; «bit_count» = d .«bit_count»; acc
 
 -- "A space in stop position adds one error, returns to idle and starts nothing"
 unfoldable pub badStop : Deframer → Deframed
-badStop d = waiting (ended d (oneMore (d .errors)))
+badStop d = record { state = ended d (oneMore (d .errors)); heard = BadStop }
 
 -- a bit in stop position: a mark gives the byte
 unfoldable pub stopBit : Deframer → Bool → Deframed
 stopBit d bit =
-    if bit then record { state = ended d (d .errors); bytes = d .acc ∷ [] }
+    if bit then record { state = ended d (d .errors); heard = Byte (d .acc) }
     else badStop d
 
 -- a bit in a frame: eight data bits, then the stop bit
@@ -102,11 +109,24 @@ frameBit d bit = if ltb (d .«bit_count») 8 then dataBit d bit else stopBit d b
 unfoldable pub pushBit : Deframer → Bool → Deframed
 pushBit d bit = if d .«in_frame» then frameBit d bit else idleBit d bit
 
+-- the byte that a bit completes, one or none
+abbrev pub yielded : Deframer → Bool → List ℕ
+yielded d bit = bytesOf (pushBit d bit .heard)
+
+-- a bit taken: the state after it, its answer, and that answer as document 01 reads it
+abbrev pub Pushes : Deframer → Bool → Deframer → Heard → Type 0
+Pushes d bit state answer = (record { state = state; heard = answer } ≡ pushBit d bit) × (bytesOf answer ≡ yielded d bit)
+
 -- ---- a list of bits
 -- the bytes that these bits yield, in order
 unfoldable pub heard : Deframer → List Bool → List ℕ
 heard d [] = []
-heard d (bit ∷ bits) = pushBit d bit .bytes ++ heard (pushBit d bit .state) bits
+heard d (bit ∷ bits) = yielded d bit ++ heard (pushBit d bit .state) bits
+
+-- how many of them are answered as bad stops
+unfoldable pub badStops : Deframer → List Bool → ℕ
+badStops d [] = 0
+badStops d (bit ∷ bits) = badStopsOf (pushBit d bit .heard) + badStops (pushBit d bit .state) bits
 
 -- the deframer after these bits
 unfoldable pub after : Deframer → List Bool → Deframer

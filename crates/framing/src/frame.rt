@@ -1,7 +1,7 @@
 // 8-N-1 asynchronous framing. `true` is mark, which is binary 1.
 ghost use mathlib.Core.Path.{_≡_};
 ghost use Prim.Native.Nat.{_<_};
-ghost use Rattle.framing.specs.Frame.{frameOf, freshDeframer, bytesOf, deframed, waiting, withBit, oneMore, idleBit, dataBit, stopBit, badStop, pushBit};
+ghost use Rattle.framing.specs.Frame.{frameOf, freshDeframer, deframed, waiting, withBit, oneMore, idleBit, dataBit, stopBit, badStop, Pushes};
 
 // One byte as ten bits: a space start bit, eight data bits lowest first, a mark stop bit.
 pub fn frame_byte(b: u8) -> [bool; 10]
@@ -29,10 +29,11 @@ pub struct Deframer {
     pub errors: u32,
 }
 
-// What one bit completed: a byte, or nothing yet.
+// What one bit completed: a byte; nothing yet; or a frame whose stop bit is a space, which is no byte.
 pub enum Heard {
     Byte(u8),
     Waiting,
+    BadStop,
 }
 
 // The deframer after a bit, and what the bit completed.
@@ -63,7 +64,7 @@ impl Deframer {
 
     // Takes one bit, in any state.
     pub fn push_bit(self, mark: bool) -> Pushed
-        ensures { λ r. ⌜ deframed r ≡ pushBit self mark ⌝ }
+        ensures { λ r. ⌜ Pushes self mark (r .state) (r .heard) ⌝ }
     {
         if self.in_frame {
             if self.bit_count < 8 {
@@ -119,7 +120,7 @@ impl Deframer {
         self.errors = one_more(self.errors);
         Pushed {
             state: self,
-            heard: Heard::Waiting,
+            heard: Heard::BadStop,
         }
     }
 
@@ -155,7 +156,7 @@ fn one_more(errors: u32) -> u32
 
 // The step through a lent reference, as the Rust has it: thin, over the step by value.
 pub fn push_bit(d: &mut Deframer, mark: bool) -> Heard
-    ensures { λ r. ⌜ (bytesOf r ≡ pushBit (now (d .entry)) mark .bytes) × (now (d .exit) ≡ pushBit (now (d .entry)) mark .state) ⌝ }
+    ensures { λ r. ⌜ Pushes (now (d .entry)) mark (now (d .exit)) r ⌝ }
 {
     let p = Deframer::push_bit(*d, mark);
     *d = p.state;

@@ -6,7 +6,7 @@ use native.Mathlib.Numerals.{add-one}
 use native.Mathlib.Omega.{arith}
 use lib.ListN.{length, getD, drop, drop-of-length-le, length-append}
 use lib.Seq.{drop-cons}
-use Rattle.happenings.specs.Happening.{byteOf, bytesIn, happeningOf, happeningsOf}
+use Rattle.happenings.specs.Happening.{byteOf, badStopOf, bytesIn, badStopsIn, happeningOf, happeningsOf}
 use Rattle.happenings.proofs.HappeningLaws.{one-few}
 use Rattle.happenings.specs.declared.happening.Happening.{Happening}
 
@@ -19,6 +19,10 @@ pub record Counts (each : Happening → ℕ) (all : List Happening → ℕ) : Ty
 pub bytes-count : Counts (λ h. length (byteOf h)) (λ hs. length (bytesIn hs))
 unfolding bytesIn
 bytes-count = record { none = refl; more = λ h hs. length-append (byteOf h) (bytesIn hs); one = λ h. omega (arith, one-few h) }
+
+pub bads-count : Counts badStopOf badStopsIn
+unfolding badStopsIn
+bads-count = record { none = refl; more = λ h hs. refl; one = λ h. omega (arith, one-few h) }
 
 module _ (each : Happening → ℕ) (all : List Happening → ℕ) (codes : List ℕ) where
   -- so many among the first i

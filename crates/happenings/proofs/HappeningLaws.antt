@@ -1,13 +1,13 @@
--- Happenings after happenings, how many bytes there are among them, and codes read back. Assumes nothing.
+-- Happenings after happenings, how many bytes and bad stops there are among them, and codes read back. Assumes nothing.
 use Prim.Native.Nat.{ℕ, suc, _+_, _<_, _≤_}
 use mathlib.Core.Path.{_≡_, refl, sym, ap, _∙_}
 use mathlib.Core.List.{List, [], _∷_, _++_, append-assoc}
 use native.Mathlib.Omega.{arith}
 use borrow.Author.Tests.{lt-ltb}
 use lib.ListN.{length, length-append}
-use Rattle.happenings.specs.Happening.{byteOf, changeOf, bytesIn, changesIn, happeningOf, happeningsOf}
+use Rattle.happenings.specs.Happening.{byteOf, changeOf, badStopOf, bytesIn, changesIn, badStopsIn, happeningOf, happeningsOf}
 use Rattle.happenings.specs.declared.happening.Happening.{Happening}
-use Rattle.happenings.specs.declared.happening.Happening.the-variants.{Byte, Lost, Up, Down}
+use Rattle.happenings.specs.declared.happening.Happening.the-variants.{Byte, BadStop, Lost, Up, Down}
 
 -- ---- one list after another
 pub bytes-append : (xs ys : List Happening) → bytesIn (xs ++ ys) ≡ bytesIn xs ++ bytesIn ys
@@ -20,17 +20,23 @@ unfolding changesIn
 changes-append [] ys = refl
 changes-append (x ∷ xs) ys = ap (λ l. changeOf x ++ l) (changes-append xs ys) ∙ sym (append-assoc (changeOf x) (changesIn xs) (changesIn ys))
 
--- ---- one of each at the most
-pub one-few : (h : Happening) → length (byteOf h) ≤ 1
+pub bads-append : (xs ys : List Happening) → badStopsIn (xs ++ ys) ≡ badStopsIn xs + badStopsIn ys
+unfolding badStopsIn
+bads-append [] ys = omega arith
+bads-append (x ∷ xs) ys = omega (arith, bads-append xs ys)
+
+-- ---- a happening is a byte or a bad stop, or neither
+pub one-few : (h : Happening) → length (byteOf h) + badStopOf h ≤ 1
 one-few (Byte b) = omega arith
+one-few BadStop = omega arith
 one-few Lost = omega arith
 one-few Up = omega arith
 one-few Down = omega arith
 
-pub bytes-few : (hs : List Happening) → length (bytesIn hs) ≤ length hs
-unfolding bytesIn
-bytes-few [] = omega arith
-bytes-few (h ∷ hs) = omega (arith, length-append (byteOf h) (bytesIn hs), one-few h, bytes-few hs)
+pub parts-few : (hs : List Happening) → length (bytesIn hs) + badStopsIn hs ≤ length hs
+unfolding bytesIn badStopsIn
+parts-few [] = omega arith
+parts-few (h ∷ hs) = omega (arith, length-append (byteOf h) (bytesIn hs), one-few h, parts-few hs)
 
 -- ---- codes
 -- a byte's code stands for it

@@ -1,8 +1,8 @@
 -- The error count: over every list of calls it stays below 4,294,967,295, so it never holds, and is the number of bad stops. Assumes nothing.
 use Prim.Native.Nat.{ℕ, zero, suc, _+_, _*_, _<_, _≤_}
-use mathlib.Core.Path.{_≡_, refl, ap, _∙_}
+use mathlib.Core.Path.{_≡_, refl, sym, ap, _∙_}
 use mathlib.Core.Bool.{false}
-use mathlib.Core.List.{List, [], _∷_, _++_}
+use mathlib.Core.List.{List, [], _∷_, _++_, append-assoc}
 use native.Mathlib.Omega.{arith}
 use lib.ListN.{length}
 use lib.Ieee.{Float}
@@ -12,13 +12,13 @@ use Rattle.framing.specs.Framing.{held}
 use Rattle.demodulation.specs.Demod.{Demodulator, freshDemodulator, hearing}
 use Rattle.demodulation.proofs.DemodLaws.{hearing-completed, hearing-errors, hearing-errors-most}
 use Rattle.demodulation.proofs.FreshLaws.{fresh-deframer}
-use Rattle.happenings.specs.Happening.{bytesIn}
+use Rattle.happenings.specs.declared.happening.Happening.{Happening}
 use Rattle.modem.specs.Hear.{resampled}
 use Rattle.modem.specs.Listener.{Demod, heardBy, freshDemod, admitted, Listens, heardOver, samplesIn, badStopsBy, badStopsOver}
 use Rattle.modem.specs.ListenerRep.{demodOf, FewErrors, ListenerSound}
-use Rattle.modem.specs.Rx.{Receiver, receiver, Made, newOf, freshReceiver, refusalOf, acceptedBy, unlessRefused, written, readOf, eventOf, errorsOf, Call, write, read, events, afterCall, afterCalls, takenUnless, takenAt, takenIn, CountsAll}
+use Rattle.modem.specs.Rx.{Receiver, receiver, Made, newOf, freshReceiver, refusalOf, acceptedBy, acceptedWrite, unlessRefused, written, readOf, eventOf, errorsOf, Call, write, read, events, afterCall, afterCalls, takenUnless, takenAt, takenIn, CountsAll}
 use Rattle.modem.specs.RxRep.{receiverOf, RxSound}
-use Rattle.modem.proofs.RxLaws.{steps-few, heard-listens, fresh-listens, fresh-idle}
+use Rattle.modem.proofs.RxLaws.{bads-none, bads-first, over-completed, fresh-listens, fresh-idle}
 use Rattle.modem.proofs.RxCalls.{admitted-ok, new-is}
 use Rattle.modem.proofs.Receiving.{passes}
 use Rattle.bell103.specs.declared.Role.{Role}
@@ -52,31 +52,20 @@ unfolding receiverOf
 sound-errors r s = listener-errors (r .listener) (s .listener)
 
 -- ---- a write
--- ten for each byte heard and each bad stop are at most the bits held before and three for each sample
-pub heard-completed : (d : Demod) (xs : List Float) → Listens d
-    → 10 * (length (bytesIn (heardBy d xs .happenings)) + badStopsBy d xs) + held (heardBy d xs .after .inner .deframer) ≤ held (d .inner .deframer) + 3 * length xs
-unfolding heardBy badStopsBy
-heard-completed d xs l = omega (arith, hearing-completed (d .inner) (resampled (d .resampler) xs .out), steps-few d xs l)
-
 pub heard-errors : (d : Demod) (xs : List Float) → d .inner .deframer .errors + badStopsBy d xs ≤ mostErrors
     → heardBy d xs .after .inner .deframer .errors ≡ d .inner .deframer .errors + badStopsBy d xs
 unfolding heardBy badStopsBy
 heard-errors d xs h = hearing-errors (d .inner) (resampled (d .resampler) xs .out) h
 
 -- ---- a list of accepted writes
-over-completed : (d : Demod) (xss : List (List Float)) → Listens d
-    → 10 * badStopsOver d xss + held (heardOver d xss .after .inner .deframer) ≤ held (d .inner .deframer) + 3 * samplesIn xss
-unfolding heardOver badStopsOver
-over-completed d [] l = omega arith
-over-completed d (xs ∷ xss) l = omega (arith, heard-completed d xs l, over-completed (heardBy d xs .after) xss (heard-listens d xs l))
-
 over-errors : (d : Demod) (xss : List (List Float)) → d .inner .deframer .errors + badStopsOver d xss ≤ mostErrors
     → heardOver d xss .after .inner .deframer .errors ≡ d .inner .deframer .errors + badStopsOver d xss
-unfolding heardOver badStopsOver
-over-errors d [] h = omega arith
+unfolding heardOver
+over-errors d [] h = rw (bads-none d) (omega arith)
 over-errors d (xs ∷ xss) h =
-    let e = heard-errors d xs (omega arith) in
-    over-errors (heardBy d xs .after) xss (omega arith) ∙ omega arith
+    let b = bads-first d xs xss in
+    let e = heard-errors d xs (omega (arith, b, h)) in
+    over-errors (heardBy d xs .after) xss (omega (arith, b, e, h)) ∙ omega (arith, b, e)
 
 fresh-errors : (kind : Kind) (rate : ℕ) (role : Role) → freshDemod kind rate role .inner .deframer .errors ≡ 0
 unfolding freshDemod freshDemodulator
@@ -99,6 +88,13 @@ unfolding heardOver
 over-append d [] yss = refl
 over-append d (xs ∷ xss) yss = over-append (heardBy d xs .after) xss yss
 
+pub over-happenings : (d : Demod) (xss yss : List (List Float))
+    → heardOver d (xss ++ yss) .happenings ≡ heardOver d xss .happenings ++ heardOver (heardOver d xss .after) yss .happenings
+unfolding heardOver
+over-happenings d [] yss = refl
+over-happenings d (xs ∷ xss) yss =
+    ap (λ (l : List Happening). heardBy d xs .happenings ++ l) (over-happenings (heardBy d xs .after) xss yss) ∙ sym (append-assoc (heardBy d xs .happenings) _ _)
+
 pub samples-append : (xss yss : List (List Float)) → samplesIn (xss ++ yss) ≡ samplesIn xss + samplesIn yss
 samples-append [] yss = omega arith
 samples-append (xs ∷ xss) yss = omega (arith, samples-append xss yss)
@@ -117,9 +113,9 @@ write-heard : (r : Receiver) (xs : List Float) → Heard r (takenUnless (refusal
 unfolding written
 write-heard r xs = go (refusalOf r xs) refl
   where
-    go : (n : ℕ) → refusalOf r xs ≡ n → Heard r (takenUnless n xs) (unlessRefused n r (acceptedBy r xs) .state)
+    go : (n : ℕ) → refusalOf r xs ≡ n → Heard r (takenUnless n xs) (unlessRefused n r (acceptedWrite r xs) .state)
     go zero e =
-        unfold acceptedBy heardOver in
+        unfold acceptedWrite acceptedBy heardOver in
         record { demod = refl; accepted = omega arith; most = λ h. omega (arith, passes xs (r .accepted) (length (r .waiting)) e .end) }
     go (suc n) e = none-heard r r refl refl
 

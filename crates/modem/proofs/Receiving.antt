@@ -8,16 +8,17 @@ use native.Mathlib.Omega.{arith}
 use borrow.Author.Tests.{ltb-false}
 use lib.ListN.{length}
 use lib.Ieee.{Float}
-use Rattle.refusal.specs.Refusals.{Reply, given, acceptanceOf, isAccepted, replyOf, first, rateRefused, ratesRefused}
+use Rattle.refusal.specs.Refusals.{Reply, given, refused, numberOf, acceptanceOf, isAccepted, replyOf, first, rateRefused, ratesRefused}
 use Rattle.refusal.proofs.RefusalLaws.{accepted-none}
 use Rattle.resampling.specs.Resample.{State, Made, made, newOf, fresh, state}
-use Rattle.modem.specs.Rx.{Receiver, refusalOf, acceptedBy, wrote, written, unlessRefused}
+use Rattle.modem.specs.Rx.{Receiver, refusalOf, acceptedWrite, wrote, written, unlessRefused}
 use Rattle.modem.specs.Write.{refusedBy}
 use Rattle.modem.specs.Samples.{allInRange}
 use Rattle.happenings.specs.Happening.{bytesIn}
 use Rattle.modem.specs.Listener.{Demod, heardBy, Listens}
 use Rattle.modem.proofs.RxLaws.{heard-most}
 use Rattle.refusal.specs.declared.Acceptance.{Acceptance}
+use Rattle.refusal.specs.declared.Refusal.{Refusal}
 use Rattle.refusal.specs.declared.Acceptance.the-variants as acceptance
 
 -- ---- a fresh resampler down to 8,000
@@ -65,19 +66,18 @@ pub bytes-fit : (d : Demod) (xs : List Float) (waiting : ℕ) → Listens d → 
 bytes-fit d xs waiting l w h = omega (arith, heard-most d xs l)
 
 -- what an answer says of the number that it stands for
-module _ (r : Receiver) (xs : List Float) (a : Acceptance) (e : acceptanceOf a ≡ replyOf (refusalOf r xs)) where
-  pub went-through : isAccepted a ≡ true → wrote (acceptanceOf a) (acceptedBy r xs) ≡ written r xs
+module _ (r : Receiver) (xs : List Float) where
+  pub went-through : acceptanceOf acceptance.Accepted ≡ replyOf (refusalOf r xs) → acceptedWrite r xs ≡ written r xs
   unfolding written
-  went-through t = rw (e, accepted-none a (refusalOf r xs) e t)
+  went-through e = rw (accepted-none acceptance.Accepted (refusalOf r xs) e refl)
 
-  pub stopped : isAccepted a ≡ false → wrote (acceptanceOf a) r ≡ written r xs
+  pub stopped : (why : Refusal) → acceptanceOf (acceptance.Refused why) ≡ replyOf (refusalOf r xs) → wrote (refused (numberOf why)) r ≡ written r xs
   unfolding written
-  stopped f = by a (refusalOf r xs) e f
+  stopped why = by (refusalOf r xs)
     where
-      by : (a : Acceptance) (k : ℕ) → acceptanceOf a ≡ replyOf k → isAccepted a ≡ false → wrote (acceptanceOf a) r ≡ unlessRefused k r (acceptedBy r xs)
-      by acceptance.Accepted zero e f = absurd (true≢false f)
-      by (acceptance.Refused why) zero e f = let z : _≡_ {A = ℕ} 0 1 = cc in absurd (omega arith)
-      by a (suc k) e f = ap (λ (x : Reply Unit). wrote x r) e
+      by : (k : ℕ) → acceptanceOf (acceptance.Refused why) ≡ replyOf k → wrote (refused (numberOf why)) r ≡ unlessRefused k r (acceptedWrite r xs)
+      by zero e = let z : _≡_ {A = ℕ} 0 1 = cc in absurd (omega arith)
+      by (suc k) e = let n : numberOf why ≡ suc k = cc in ap (λ (x : ℕ). wrote (refused x) r) n
 
 pub not-none : (a : Acceptance) (k : ℕ) → acceptanceOf a ≡ replyOf k → isAccepted a ≡ false → k ≡ 0 → ⊥
 not-none acceptance.Accepted k e f z = true≢false f

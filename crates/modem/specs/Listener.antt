@@ -10,7 +10,8 @@ use lib.Ieee.{Float}
 use Rattle.numeric.specs.If.{if_then_else_}
 use Rattle.refusal.specs.Refusals.{dspRate, first, rateRefused}
 use Rattle.resampling.specs.Resample as resample
-use Rattle.demodulation.specs.Demod.{Demodulator, hearing, freshDemodulator, Tuned, badStopsIn}
+use Rattle.demodulation.specs.Demod.{Demodulator, hearing, freshDemodulator, Tuned}
+use Rattle.happenings.specs.Happening.{badStopsIn}
 use Rattle.happenings.specs.declared.happening.Happening.{Happening}
 use Rattle.modem.specs.Samples.{allInRange}
 use Rattle.modem.specs.Hear.{resampled}
@@ -73,10 +74,9 @@ abbrev pub samplesIn : List (List Float) → ℕ
 samplesIn [] = 0
 samplesIn (xs ∷ xss) = length xs + samplesIn xss
 
--- the spaces in stop position among the bits that these samples are sliced to, and those of a list of accepted writes
+-- the bad stops among what these samples are heard as, and among what a list of accepted writes is
 unfoldable pub badStopsBy : Demod → List Float → ℕ
-badStopsBy d xs = badStopsIn (d .inner) (resampled (d .resampler) xs .out)
+badStopsBy d xs = badStopsIn (heardBy d xs .happenings)
 
 unfoldable pub badStopsOver : Demod → List (List Float) → ℕ
-badStopsOver d [] = 0
-badStopsOver d (xs ∷ xss) = badStopsBy d xs + badStopsOver (heardBy d xs .after) xss
+badStopsOver d xss = badStopsIn (heardOver d xss .happenings)

@@ -10,7 +10,7 @@ use Rattle.refusal.specs.Refusals.{dspRate, Reply, given, refused, replyOf, rat
 use Rattle.framing.specs.Frame.{mostErrors}
 use Rattle.demodulation.specs.Demod.{reported}
 use Rattle.modem.specs.Write.{refusedBy}
-use Rattle.modem.specs.Listener.{Demod, heardBy, freshDemod}
+use Rattle.modem.specs.Listener.{Demod, heardBy, freshDemod, badStopsBy}
 use Rattle.happenings.specs.Happening.{bytesIn, changesIn}
 use Rattle.modem.specs.Queue.{loggingAll, readCount, readInto, readRest}
 use Rattle.bell103.specs.declared.Role.{Role}
@@ -45,11 +45,12 @@ newOf rate role = if rateRefused rate then made (refused 1) (freshReceiver dspRa
 abbrev pub refusalOf : Receiver → List Float → ℕ
 refusalOf r xs = refusedBy xs (r .accepted) (length (r .waiting))
 
+-- an accepted write's answer is "the number of bad stops" in it
 pub record Written : Type 0 where
-  pub answer : Reply Unit
+  pub answer : Reply ℕ
   pub state : Receiver
 
-abbrev pub wrote : Reply Unit → Receiver → Written
+abbrev pub wrote : Reply ℕ → Receiver → Written
 wrote a r = record { answer = a; state = r }
 
 -- an accepted write: the bytes heard join those that wait, all of them; "The event queue holds 64; one more drops the oldest"
@@ -58,13 +59,17 @@ acceptedBy r xs =
     let h = heardBy (r .demod) xs in
     receiver (h .after) (r .waiting ++ bytesIn (h .happenings)) (loggingAll (r .logged) (changesIn (h .happenings))) (r .accepted + length xs)
 
+-- its answer, of that write alone
+unfoldable pub acceptedWrite : Receiver → List Float → Written
+acceptedWrite r xs = wrote (given (badStopsBy (r .demod) xs)) (acceptedBy r xs)
+
 -- "A refused call returns its number alone and leaves state and buffers untouched"
-abbrev pub unlessRefused : ℕ → Receiver → Receiver → Written
-unlessRefused zero r after = wrote (replyOf zero) after
-unlessRefused (suc k) r after = wrote (replyOf (suc k)) r
+abbrev pub unlessRefused : ℕ → Receiver → Written → Written
+unlessRefused zero r accepted = accepted
+unlessRefused (suc k) r accepted = wrote (refused (suc k)) r
 
 unfoldable pub written : Receiver → List Float → Written
-written r xs = unlessRefused (refusalOf r xs) r (acceptedBy r xs)
+written r xs = unlessRefused (refusalOf r xs) r (acceptedWrite r xs)
 
 -- ---- `read`, `events`, `carrier_detected`, `framing_errors`
 pub record ReadOut : Type 0 where

@@ -39,6 +39,7 @@ fn keep_heard(held: &mut [u8; 512], n: usize, h: Happening) -> usize
 {
     match h {
         Happening::Byte(b) => keep_at(held, n, b),
+        Happening::BadStop => n,
         Happening::Lost => n,
         Happening::Up => n,
         Happening::Down => n,
@@ -152,6 +153,7 @@ fn log_into(held: &mut [bool; 64], n: usize, h: Happening) -> usize
 {
     match h {
         Happening::Byte(_) => n,
+        Happening::BadStop => n,
         Happening::Lost => n,
         Happening::Up => log_at(held, n, true),
         Happening::Down => log_at(held, n, false),

@@ -11,14 +11,15 @@ use bell103::Role;
 use demodulation::Demodulator;
 use demodulation::Event;
 use demodulation::Kind;
+use happenings::tally_of;
 use refusal::Acceptance;
-use refusal::is_accepted;
+use refusal::Counted;
 use resampling::Resampler;
 ghost use mathlib.Core.Path.{_≡_};
 ghost use mathlib.Core.Bool.{true};
 ghost use Prim.Native.Nat.{_≤_};
 ghost use lib.ListN.{length};
-ghost use Rattle.refusal.specs.Refusals.{acceptanceOf};
+ghost use Rattle.refusal.specs.Refusals.{acceptanceOf, countOf};
 ghost use Rattle.resampling.specs.Resample.{equalRates};
 ghost use Rattle.resampling.specs.ResampleRep.{stateOf, Sound};
 ghost use Rattle.demodulation.specs.Demod.{eventsOf};
@@ -26,7 +27,7 @@ ghost use Rattle.demodulation.specs.DemodRep.{demodulatorOf, DemodSound};
 ghost use Rattle.happenings.specs.Codes.{Codes};
 ghost use Rattle.modem.specs.Queue.{mostBytes, mostEvents};
 ghost use Rattle.modem.specs.Write.{refusedBy};
-ghost use Rattle.modem.specs.Rx.{newOf, made, acceptedBy, written, wrote, readOf, readOut, eventOf, taken, carrierOf, errorsOf};
+ghost use Rattle.modem.specs.Rx.{newOf, made, acceptedWrite, written, wrote, readOf, readOut, eventOf, taken, carrierOf, errorsOf};
 ghost use Rattle.modem.specs.RxRep.{receiverOf, RxSound};
 
 pub struct Rx {
@@ -41,10 +42,10 @@ pub struct Created {
     pub answer: Acceptance,
 }
 
-// What `write` answers, and the state.
+// What `write` answers, and the state: why it is refused, or how many bad stops there are in it.
 pub struct Written {
     pub state: Rx,
-    pub answer: Acceptance,
+    pub answer: Counted,
 }
 
 // How many bytes were read, and the state.
@@ -66,9 +67,9 @@ fn no_codes() -> [u16; 2052]
 }
 
 // At 8,000 Hz. The listener is changed where it stands, since a copy of it takes long.
-fn accept_equal(mut rx: Rx, samples: &[f32]) -> Rx
+fn accept_equal(mut rx: Rx, samples: &[f32]) -> Written
     requires { ⌜ RxSound rx × (refusedBy (now samples) (rx .listener .accepted) (rx .out .count) ≡ 0) × (equalRates (stateOf (rx .listener .resampler)) ≡ true) ⌝ }
-    ensures { λ r. ⌜ (receiverOf r ≡ acceptedBy (receiverOf rx) (now (samples .entry))) × RxSound r ⌝ }
+    ensures { λ r. ⌜ (wrote (countOf (r .answer)) (receiverOf (r .state)) ≡ acceptedWrite (receiverOf rx) (now (samples .entry))) × RxSound (r .state) ⌝ }
 {
     let mut listener = rx.listener;
     let demod0 = listener.demod;
@@ -87,13 +88,17 @@ fn accept_equal(mut rx: Rx, samples: &[f32]) -> Rx
     rx.listener = listener;
     rx.out = out;
     rx.events = logged;
-    rx
+    let tally = tally_of(&codes[..count]);
+    Written {
+        answer: Counted::Count(tally.bad_stops),
+        state: rx,
+    }
 }
 
 // At another rate.
-fn accept_other(mut rx: Rx, samples: &[f32]) -> Rx
+fn accept_other(mut rx: Rx, samples: &[f32]) -> Written
     requires { ⌜ RxSound rx × (refusedBy (now samples) (rx .listener .accepted) (rx .out .count) ≡ 0) ⌝ }
-    ensures { λ r. ⌜ (receiverOf r ≡ acceptedBy (receiverOf rx) (now (samples .entry))) × RxSound r ⌝ }
+    ensures { λ r. ⌜ (wrote (countOf (r .answer)) (receiverOf (r .state)) ≡ acceptedWrite (receiverOf rx) (now (samples .entry))) × RxSound (r .state) ⌝ }
 {
     let listener0 = rx.listener;
     let bytes = rx.out;
@@ -109,13 +114,17 @@ fn accept_other(mut rx: Rx, samples: &[f32]) -> Rx
     rx.listener = listener;
     rx.out = out;
     rx.events = logged;
-    rx
+    let tally = tally_of(&codes[..count]);
+    Written {
+        answer: Counted::Count(tally.bad_stops),
+        state: rx,
+    }
 }
 
-// The state after a write that no check refused: the bytes and the changes of what was heard go into the queues.
-fn accept_all(rx: Rx, samples: &[f32]) -> Rx
+// A write that no check refused: the bytes and the changes of what was heard go into the queues.
+fn accept_all(rx: Rx, samples: &[f32]) -> Written
     requires { ⌜ RxSound rx × (refusedBy (now samples) (rx .listener .accepted) (rx .out .count) ≡ 0) ⌝ }
-    ensures { λ r. ⌜ (receiverOf r ≡ acceptedBy (receiverOf rx) (now (samples .entry))) × RxSound r ⌝ }
+    ensures { λ r. ⌜ (wrote (countOf (r .answer)) (receiverOf (r .state)) ≡ acceptedWrite (receiverOf rx) (now (samples .entry))) × RxSound (r .state) ⌝ }
 {
     let resampler = rx.listener.resampler;
     if resampler.is_identity() {
@@ -141,19 +150,18 @@ impl Rx {
         Created { answer, state }
     }
 
-    // The next samples, in order and gapless.
+    // The next samples, in order and gapless. Answers how many bad stops there are in them.
     pub fn write(self, samples: &[f32]) -> Written
         requires { ⌜ RxSound self ⌝ }
-        ensures { λ r. ⌜ (wrote (acceptanceOf (r .answer)) (receiverOf (r .state)) ≡ written (receiverOf self) (now (samples .entry))) × RxSound (r .state) ⌝ }
+        ensures { λ r. ⌜ (wrote (countOf (r .answer)) (receiverOf (r .state)) ≡ written (receiverOf self) (now (samples .entry))) × RxSound (r .state) ⌝ }
     {
         let answer = check(samples, self.listener.accepted, self.out.count);
-        if is_accepted(answer) {
-            let state = accept_all(self, samples);
-            return Written { answer, state };
-        }
-        Written {
-            answer,
-            state: self,
+        match answer {
+            Acceptance::Refused(why) => Written {
+                answer: Counted::Refused(why),
+                state: self,
+            },
+            Acceptance::Accepted => accept_all(self, samples),
         }
     }
 

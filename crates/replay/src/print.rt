@@ -36,6 +36,18 @@ pub fn acceptance(a: Acceptance) {
     }
 }
 
+// The number of the refusal, 0 where there is none.
+pub fn refusal(c: Counted) {
+    match c {
+        Counted::Count(_) => {
+            text(b"0");
+        }
+        Counted::Refused(r) => {
+            number(r.number() as u64);
+        }
+    }
+}
+
 // The count, or the number of the refusal.
 pub fn counted(c: Counted) {
     match c {

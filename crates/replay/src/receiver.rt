@@ -96,7 +96,7 @@ pub fn write(rx: Rx, samples: &[f32], bytes: u64, events: u64) -> Rx
     print::text(b"write ");
     print::number(samples.len() as u64);
     print::text(b": ");
-    print::acceptance(answer);
+    print::refusal(answer);
     print::text(b", carrier ");
     print::flag(after.carrier_detected());
     print::text(b", errors ");

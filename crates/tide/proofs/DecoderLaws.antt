@@ -19,7 +19,7 @@ use Rattle.tide.specs.Decoder.{Line, Decoder, freshDecoder, IsAnswer, pl
 use Rattle.tide.specs.DecoderRep.{mostCount, held, holding}
 use Rattle.happenings.specs.Happening.{byteOf, bytesIn, typed}
 use Rattle.happenings.specs.declared.happening.Happening.{Happening}
-use Rattle.happenings.specs.declared.happening.Happening.the-variants.{Byte, Lost, Up, Down}
+use Rattle.happenings.specs.declared.happening.Happening.the-variants.{Byte, BadStop, Lost, Up, Down}
 use Rattle.tide.proofs.JudgeLaws.{judge-newer, fields-alike, some-writer}
 
 -- ---- what is heard after what was heard
@@ -47,6 +47,7 @@ runs-on d [] = (refl, refl, refl)
 runs-on d (Byte c ∷ hs) =
     let r = runs-on (took d (Byte c)) hs in
     (r .0, ap (λ (ls : List Line). lineAt d (moveOf (Byte c)) ++ ls) (r .1), ap (λ (vs : List ℕ). verdictAt d (moveOf (Byte c)) ++ vs) (r .2))
+runs-on d (BadStop ∷ hs) = runs-on d hs
 runs-on d (Lost ∷ hs) = runs-on d hs
 runs-on d (Up ∷ hs) = runs-on d hs
 runs-on d (Down ∷ hs) = runs-on d hs
@@ -351,6 +352,7 @@ few-line d false c = omega arith
 few-by : (d : Decoder) (h : Happening) → length (verdictAt d (moveOf h)) ≤ length (byteOf h)
 unfolding moveOf
 few-by d (Byte c) = few-line d (eqb c 10) c
+few-by d BadStop = omega arith
 few-by d Lost = omega arith
 few-by d Up = omega arith
 few-by d Down = omega arith

@@ -11,7 +11,7 @@ use lib.Seq.{take-all, take-append-le, length-take-le}
 use Rattle.numeric.specs.If.{if_then_else_}
 use Rattle.happenings.specs.Happening.{bytesIn}
 use Rattle.happenings.specs.declared.happening.Happening.{Happening}
-use Rattle.happenings.specs.declared.happening.Happening.the-variants.{Byte, Lost, Up, Down}
+use Rattle.happenings.specs.declared.happening.Happening.the-variants.{Byte, BadStop, Lost, Up, Down}
 use Rattle.tide.specs.Decoder.{Line, emptyLine, Decoder, freshDecoder, longer, ended, grown, Move, ends, grows, moveOf, moved, took, lineAt, linesIn}
 use Rattle.tide.specs.Lines.{onFirst, endedTexts, lineFrom, linesOf}
 
@@ -57,6 +57,7 @@ ends-heard : (hs : List Happening) → Ends hs
 unfolding linesIn bytesIn endedTexts took moveOf moved
 ends-heard [] d p e = refl
 ends-heard (Byte c ∷ hs) d p e = ends-byte (eqb c 10) c hs (ends-heard hs) d p e
+ends-heard (BadStop ∷ hs) d p e = ends-heard hs d p e
 ends-heard (Lost ∷ hs) d p e = ends-heard hs d p e
 ends-heard (Up ∷ hs) d p e = ends-heard hs d p e
 ends-heard (Down ∷ hs) d p e = ends-heard hs d p e

@@ -16,7 +16,7 @@ use Rattle.tide.specs.JudgeRep.{shownOf, verdictOf}
 use Rattle.tide.specs.DecoderRep.{lineOf, decoderOf, held, holding, SoundLine, Sound, isEnd, Stepped, FedOne, Feeds}
 use Rattle.happenings.specs.Happening.{bytesIn, happeningOf, happeningsOf}
 use Rattle.happenings.specs.declared.happening.Happening.{Happening}
-use Rattle.happenings.specs.declared.happening.Happening.the-variants.{Byte, Lost, Up, Down}
+use Rattle.happenings.specs.declared.happening.Happening.the-variants.{Byte, BadStop, Lost, Up, Down}
 use Rattle.tide.proofs.DecoderLaws.{judge-answers, bump-total, total-heard, laid-more, laid-none}
 use Rattle.tide.specs.declared.judge.Judged.{Judged}
 use Rattle.tide.specs.declared.decoder.Line.{Line}
@@ -97,6 +97,10 @@ move-ends c e = rw (eq-eqb c 10 e)
 pub move-grows : (c : ℕ) → (c ≡ 10 → ⊥) → plain.grows c ≡ plain.moveOf (Byte c)
 unfolding plain.moveOf
 move-grows c e = rw (ne-eqb c 10 e)
+
+pub move-bad : plain.stays ≡ plain.moveOf BadStop
+unfolding plain.moveOf
+move-bad = refl
 
 pub move-lost : plain.stays ≡ plain.moveOf Lost
 unfolding plain.moveOf

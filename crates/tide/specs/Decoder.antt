@@ -11,7 +11,7 @@ use Rattle.hexadecimal.specs.Hex.{unhex, total}
 use Rattle.tide.specs.Frame.{readerOf, Writer, Rules, lineBy}
 use Rattle.tide.specs.Judge.{Reading, readingOf, Shown, none, shows, Verdict, judge, ofLine, Passes}
 use Rattle.happenings.specs.declared.happening.Happening.{Happening}
-use Rattle.happenings.specs.declared.happening.Happening.the-variants.{Byte, Lost, Up, Down}
+use Rattle.happenings.specs.declared.happening.Happening.the-variants.{Byte, BadStop, Lost, Up, Down}
 
 -- "the unended line (its first 64 characters and whether there were more)"
 pub record Line : Type 0 where
@@ -87,6 +87,7 @@ pub data Move : Type 0 where
 -- "adds each byte to the line": 0A (10) ends it; "a line runs on over a lost carrier"
 unfoldable pub moveOf : Happening → Move
 moveOf (Byte c) = if eqb c 10 then ends else grows c
+moveOf BadStop = stays
 moveOf Lost = stays
 moveOf Up = stays
 moveOf Down = stays

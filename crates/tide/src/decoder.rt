@@ -206,6 +206,7 @@ impl Decoder {
     {
         match h {
             Happening::Byte(c) => self.add_byte(c),
+            Happening::BadStop => self.stay(),
             Happening::Lost => self.stay(),
             Happening::Up => self.stay(),
             Happening::Down => self.stay(),

@@ -1,5 +1,5 @@
--- `numbers::tell` meets its contract: the four stores, and all else as it was. Assumes nothing.
-use Rattle.board.proofs.Stores.{set-four}
+-- `numbers::tell` meets its contract: the five stores, and all else as it was. Assumes nothing.
+use Rattle.board.proofs.Stores.{set-five}
 use lib.ListN.{length-set}
 use native.Mathlib.Omega.{arith}
 use borrow.Author.Needs.{needs}
@@ -45,11 +45,20 @@ mul-answers-4 c = search needs
 slice-write-answers-4 : tie.Need-slice-write-answers-4
 slice-write-answers-4 c = simp length-set (omega arith)
 
+add-answers-4 : tie.Need-add-answers-4
+add-answers-4 c = search needs
+
+mul-answers-5 : tie.Need-mul-answers-5
+mul-answers-5 c = search needs
+
+slice-write-answers-5 : tie.Need-slice-write-answers-5
+slice-write-answers-5 c = simp length-set (omega arith)
+
 same-length : tie.Need-same-length
 same-length c = search needs
 
 returns : tie.Need-returns
-returns c = set-four _ _ _ _ _ _ (c .before .before .pre)
+returns c = set-five _ _ _ _ _ _ _ (c .before .before .pre)
 
 pub tell-spec : {M : Type 1} → statement M
 tell-spec =
@@ -68,5 +77,8 @@ tell-spec =
     add-answers-3
     mul-answers-4
     slice-write-answers-4
+    add-answers-4
+    mul-answers-5
+    slice-write-answers-5
     same-length
     returns)

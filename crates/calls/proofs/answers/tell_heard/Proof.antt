@@ -1,5 +1,5 @@
--- `answers::tell_heard` meets its contract: the five stores, and all else as it was. Assumes nothing.
-use Rattle.calls.proofs.Parts.{set-five}
+-- `answers::tell_heard` meets its contract: the six stores, and all else as it was. Assumes nothing.
+use Rattle.calls.proofs.Parts.{set-six}
 use lib.ListN.{length-set}
 use native.Mathlib.Omega.{arith}
 use borrow.Author.Needs.{needs}
@@ -57,11 +57,20 @@ mul-answers-5 c = search needs
 slice-write-answers-5 : tie.Need-slice-write-answers-5
 slice-write-answers-5 c = rw (length-set, length-set, length-set, length-set) (omega arith)
 
+add-answers-5 : tie.Need-add-answers-5
+add-answers-5 c = search needs
+
+mul-answers-6 : tie.Need-mul-answers-6
+mul-answers-6 c = search needs
+
+slice-write-answers-6 : tie.Need-slice-write-answers-6
+slice-write-answers-6 c = rw (length-set, length-set, length-set, length-set, length-set) (omega arith)
+
 same-length : tie.Need-same-length
 same-length c = search needs
 
 returns : tie.Need-returns
-returns c = set-five _ _ _ _ _ _ _ (c .before .before .before .pre)
+returns c = set-six _ _ _ _ _ _ _ _ (c .before .before .before .pre)
 
 pub tell-heard-spec : {M : Type 1} → statement M
 tell-heard-spec =
@@ -84,5 +93,8 @@ tell-heard-spec =
     add-answers-4
     mul-answers-5
     slice-write-answers-5
+    add-answers-5
+    mul-answers-6
+    slice-write-answers-6
     same-length
     returns)

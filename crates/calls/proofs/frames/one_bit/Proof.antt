@@ -26,9 +26,9 @@ same-length c = search needs
 returns : tie.Need-returns
 returns c =
     let a = c .before .before .before .before .before .before .before .before .before .args in
-    let p = c .before .before .before .before .before .before .push-bit .ensures ∙ ap (pushBit (a .d)) (c .before .before .before .before .before .before .before .is-yes .ensures) in
+    let p = c .before .before .before .before .before .before .push-bit .ensures .0 ∙ ap (pushBit (a .d)) (c .before .before .before .before .before .before .before .is-yes .ensures) in
     let y = c .before .before .before .before .yield-of in
-    (ap (λ (q : Deframed). q .state) p, push-told _ _ (y .result .any) (y .result .byte) (take (a .at) (a .answers .now)) (drop (a .at + 6) (a .answers .now)) _ p (y .ensures) (c .before .before .tell-pushed .ensures))
+    (ap (λ (q : Deframed). q .state) p, push-told _ _ (y .result .kind) (y .result .byte) (take (a .at) (a .answers .now)) (drop (a .at + 6) (a .answers .now)) _ p (y .ensures) (c .before .before .tell-pushed .ensures))
 
 pub one-bit-spec : {M : Type 1} → statement M
 one-bit-spec =

@@ -1,7 +1,7 @@
 -- `frames::tell_pushed` meets its contract: the six stores, and all else as it was. Assumes nothing.
 use native.Mathlib.Omega.{arith}
 use lib.ListN.{length-set}
-use Rattle.calls.proofs.FrameCalls.{set-six}
+use Rattle.calls.proofs.Parts.{set-six}
 use borrow.Author.Needs.{needs}
 use Rattle.calls.proofs.frames.tell_pushed.Statement.{statement}
 use Rattle.calls.proofs.frames.tell_pushed.Tie as tie

@@ -18,7 +18,7 @@ Inv-loop samples script bytes₀ events₀ answers₀ calls place₀ i₀ bytes 
     × (length events ≡ length events₀)
     × (length answers ≡ length answers₀)
     × Within place samples bytes events
-    × (after i (take (place .bytes) bytes) (take (place .events) events) (take (5 * i) answers) (receivedFrom (calls - i) (receiverOf (place .state)) (drop (place .read) samples) (drop (3 * i) script) (drop (place .bytes) bytes) (drop (place .events) events) (drop (5 * i) answers)) ≡ receivedFrom calls (receiverOf (place₀ .state)) samples script bytes₀ events₀ answers₀)
+    × (after i (take (place .bytes) bytes) (take (place .events) events) (take (6 * i) answers) (receivedFrom (calls - i) (receiverOf (place .state)) (drop (place .read) samples) (drop (3 * i) script) (drop (place .bytes) bytes) (drop (place .events) events) (drop (6 * i) answers)) ≡ receivedFrom calls (receiverOf (place₀ .state)) samples script bytes₀ events₀ answers₀)
 
 abbrev μ-loop : tie.MeasureT-loop
 μ-loop samples script bytes₀ events₀ answers₀ calls place₀ i₀ bytes events answers place i = calls - i
@@ -96,7 +96,7 @@ returns c =
     let l = c .before .loop in
     let n = c .before .before .smaller in
     let e : l .i ≡ n .result = omega arith in
-    rw (← n .ensures .0) (sym (receive-end (l .i) (n .result) e _ _ _ _ _ _ (l .place .bytes) (l .place .events) (5 * l .i)) ∙ l .inv .5)
+    rw (← n .ensures .0) (sym (receive-end (l .i) (n .result) e _ _ _ _ _ _ (l .place .bytes) (l .place .events) (6 * l .i)) ∙ l .inv .5)
 
 pub all-calls-spec : {M : Type 1} → statement M
 all-calls-spec =

@@ -9,14 +9,14 @@ use Rattle.calls.proofs.receive.make_call.Tie as tie
 write-requires : tie.Need-write-requires
 write-requires c κs = search needs
 
+numbers-of-requires : tie.Need-numbers-of-requires
+numbers-of-requires c κs = search needs
+
 read-requires : tie.Need-read-requires
 read-requires c κs = search needs
 
 take-events-requires : tie.Need-take-events-requires
 take-events-requires c κs = search needs
-
-number-in-requires : tie.Need-number-in-requires
-number-in-requires c κs = search needs
 
 carrier-detected-requires : tie.Need-carrier-detected-requires
 carrier-detected-requires c κs = search needs
@@ -37,18 +37,19 @@ returns : tie.Need-returns
 returns c =
     let s = c .before .before .before .before .before .before .before .before .before .before .before .before .before .before .before .before .before .before .before in
     let w = c .before .before .before .before .before .before .before .before .before .before .before .before .before .before .before .write .ensures in
-    let d = c .before .before .before .before .before .before .before .before .before .before .before .before .read .ensures in
-    let t = c .before .before .before .before .before .before .before .take-events .ensures in
-    calls-is (s .args .rx) _ _ _ _ _ (w .0) _ _ _ (d .0) _ _ _ (t .0) (t .1) _ (c .before .before .before .number-in .ensures) refl refl (c .before .one-if .ensures ∙ ap bit (c .before .before .carrier-detected .ensures)) (c .framing-errors .ensures)
+    let a = c .before .before .before .before .before .before .before .before .before .before .before .before .before .before .numbers-of .ensures in
+    let d = c .before .before .before .before .before .before .before .before .before .before .before .read .ensures in
+    let t = c .before .before .before .before .before .before .take-events .ensures in
+    calls-is (s .args .rx) _ _ _ _ _ (w .0) _ _ _ (d .0) _ _ _ (t .0) (t .1) _ (a .0) refl refl (c .before .one-if .ensures ∙ ap bit (c .before .before .carrier-detected .ensures)) (c .framing-errors .ensures) (a .1)
 
 pub make-call-spec : {M : Type 1} → statement M
 make-call-spec =
     tie.close
     (tie.spec
     write-requires
+    numbers-of-requires
     read-requires
     take-events-requires
-    number-in-requires
     carrier-detected-requires
     one-if-requires
     framing-errors-requires

@@ -2,7 +2,6 @@
 use mathlib.Core.List.{_++_}
 use native.Mathlib.Omega.{arith}
 use lib.ListN.{length-append}
-use Rattle.framing.specs.Frame.{bytesOf}
 use Rattle.demodulation.specs.Demod.{fallOf, changeOf, wordOf}
 use Rattle.demodulation.proofs.Turns.{put-both}
 use Rattle.demodulation.proofs.hearing.put_step.Statement.{statement}
@@ -16,22 +15,22 @@ use Rattle.demodulation.proofs.hearing.put_word.Reads as put-word-reads
 put-fall-requires : tie.Need-put-fall-requires
 put-fall-requires c κs =
     let s = c .before in
-    let f = length-append (fallOf (s .args .was) (s .args .up)) (changeOf (s .args .event) ++ wordOf (bytesOf (s .args .heard))) in
-    let g = length-append (changeOf (s .args .event)) (wordOf (bytesOf (s .args .heard))) in
+    let f = length-append (fallOf (s .args .was) (s .args .up)) (changeOf (s .args .event) ++ wordOf (s .args .heard)) in
+    let g = length-append (changeOf (s .args .event)) (wordOf (s .args .heard)) in
     (omega (arith, f, g, s .pre .0), s .pre .1)
 
 put-change-requires : tie.Need-put-change-requires
 put-change-requires c κs =
     let s = c .before .before .before in
-    let f = length-append (fallOf (s .args .was) (s .args .up)) (changeOf (s .args .event) ++ wordOf (bytesOf (s .args .heard))) in
-    let g = length-append (changeOf (s .args .event)) (wordOf (bytesOf (s .args .heard))) in
+    let f = length-append (fallOf (s .args .was) (s .args .up)) (changeOf (s .args .event) ++ wordOf (s .args .heard)) in
+    let g = length-append (changeOf (s .args .event)) (wordOf (s .args .heard)) in
     (omega (arith, f, g, s .pre .0, c .before .put-fall .ensures .count), c .before .put-fall .ensures .places)
 
 put-word-requires : tie.Need-put-word-requires
 put-word-requires c κs =
     let s = c .before .before .before .before .before in
-    let f = length-append (fallOf (s .args .was) (s .args .up)) (changeOf (s .args .event) ++ wordOf (bytesOf (s .args .heard))) in
-    let g = length-append (changeOf (s .args .event)) (wordOf (bytesOf (s .args .heard))) in
+    let f = length-append (fallOf (s .args .was) (s .args .up)) (changeOf (s .args .event) ++ wordOf (s .args .heard)) in
+    let g = length-append (changeOf (s .args .event)) (wordOf (s .args .heard)) in
     (omega (arith, f, g, s .pre .0, c .before .before .before .put-fall .ensures .count, c .before .put-change .ensures .count), c .before .put-change .ensures .places)
 
 returns : tie.Need-returns

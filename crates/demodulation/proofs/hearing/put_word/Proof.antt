@@ -1,5 +1,4 @@
 -- What a bit completed is put, if it completed anything. Assumes nothing.
-use mathlib.Core.Path.{sym, ap, _∙_}
 use native.Mathlib.Omega.{arith}
 use Rattle.happenings.specs.Happening.{happeningOf}
 use Rattle.happenings.proofs.HappeningLaws.{byte-back}
@@ -9,8 +8,8 @@ use Rattle.demodulation.proofs.hearing.put_word.Statement.{statement}
 use Rattle.demodulation.proofs.hearing.put_word.Tie as tie
 use Rattle.demodulation.proofs.hearing.put_word.Reads as reads
 use Rattle.demodulation.proofs.hearing.put_word.Lts as lts
-use Rattle.demodulation.proofs.hearing.put.Reads as put-reads
 use Rattle.demodulation.proofs.hearing.byte_code.Reads as byte-code-reads
+use Rattle.demodulation.proofs.hearing.put.Reads as put-reads
 
 enum-known-heard : tie.Need-enum-known-heard
 enum-known-heard c = search needs
@@ -27,6 +26,15 @@ put-requires c κs =
 enum-told : tie.Need-enum-told
 enum-told c = search needs
 
+enum-told-2 : tie.Need-enum-told-2
+enum-told-2 c = search needs
+
+put-requires-2 : tie.Need-put-requires-2
+put-requires-2 c κs =
+    let s = c .before .before .before in
+    let h = rw (c .before .enum-told2 .given .1) at (s .pre .0) in
+    (omega (arith, h), s .pre .1)
+
 returns : tie.Need-returns
 returns c =
     let b = c .before .before .byte-code .ensures in
@@ -34,6 +42,10 @@ returns c =
 
 returns-2 : tie.Need-returns-2
 returns-2 c = rw (c .enum-told .given .1) (put-none _ _ (c .before .before .pre .1))
+
+returns-3 : tie.Need-returns-3
+unfolding happeningOf
+returns-3 c = rw (c .before .before .enum-told2 .given .1) (c .put2 .ensures)
 
 pub put-word-spec : {M : Type 1} → statement M
 put-word-spec =
@@ -43,5 +55,8 @@ put-word-spec =
     byte-code-requires
     put-requires
     enum-told
+    enum-told-2
+    put-requires-2
     returns
-    returns-2)
+    returns-2
+    returns-3)

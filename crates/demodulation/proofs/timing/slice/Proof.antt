@@ -9,7 +9,7 @@ push-bit-requires c κs = search needs
 
 returns : tie.Need-returns
 unfolding sliced
-returns c = rw (c .before .before .if1 .taken, c .before .if2 .taken) (c .push-bit .ensures)
+returns c = rw (c .before .before .if1 .taken, c .before .if2 .taken) (c .push-bit .ensures .0)
 
 returns-2 : tie.Need-returns-2
 unfolding sliced

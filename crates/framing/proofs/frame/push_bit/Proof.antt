@@ -41,7 +41,7 @@ use denote.Triple.Spec.{Meets, tripleOf}
 use denote.Triple.Table.{entered, cited}
 use denote.Triple.Walked.{says, Stays, stay-ref, stay-none, walkOf, AllGo, goes-none, goes-ref, Walks, ends-at, walked, walk-meets}
 use denote.Exit.{yes}
-use Rattle.framing.specs.Frame.{Deframed, deframed, pushBit}
+use Rattle.framing.specs.Frame.{Pushes}
 use Rattle.framing.specs.declared.frame.Deframer.{Deframer}
 use Rattle.framing.specs.declared.frame.Heard.{Heard}
 use Rattle.framing.specs.declared.frame.Pushed.{Pushed}
@@ -98,8 +98,8 @@ module _ {M : Type 1} (𝓤 : URA M) (H : Heap 𝓤) (A : Atoms 𝓤) (W : Given
   Post = walkOf 𝓤 H A push.ended stayed (push.clauses 𝓤 H A at-mem run) .post (((κ, tt), (q, tt), tt, x, at), tt)
 
   -- of the step's `ensured`, the clause alone: it has no `&mut`, so what is said of last values is dropped
-  step-of : (r : Pushed) → ent 𝓤 (ensured 𝓤 H A step.ended (step.clauses 𝓤 H A at-mem run) tt (h, (m, tt)) tt r) (fact 𝓤 (deframed r ≡ pushBit h m))
-  step-of r = exE 𝓤 _ (λ ws. snd∗ 𝓤 (sem 𝓤 H A (lasts step.ended tt (h, (m, tt)) ws)) (fact 𝓤 (deframed r ≡ pushBit h m)))
+  step-of : (r : Pushed) → ent 𝓤 (ensured 𝓤 H A step.ended (step.clauses 𝓤 H A at-mem run) tt (h, (m, tt)) tt r) (fact 𝓤 (Pushes h m (r .state) (r .heard)))
+  step-of r = exE 𝓤 _ (λ ws. snd∗ 𝓤 (sem 𝓤 H A (lasts step.ended tt (h, (m, tt)) ws)) (fact 𝓤 (Pushes h m (r .state) (r .heard))))
 
   abbrev to-step : Step 𝓤 H A at-mem run .Ghost
   to-step = ((tt, tt, tt, (h, (m, tt)), (mach h ∷ [], (vbool m ∷ [], tt))), tt)
@@ -109,12 +109,12 @@ module _ {M : Type 1} (𝓤 : URA M) (H : Heap 𝓤) (A : Atoms 𝓤) (W : Given
       qed W (‵ ftrue ∷ []) ∵ owned ! bool (Is bool) (bool-makes 𝓤 H A W) m _ refl $ fjoin ! $ owned ! T.the-row (Is T.the-row) (LL.makes T.the-type T′.the-plain 𝓤 H A) h _ g $ fjoin ! $
       nothing ! $ join ! $ frame ! $ done !
 
-  exits : (r : Pushed) → deframed r ≡ pushBit h m → Is E.the-row (r .heard) (machE (r .heard) ∷ [])
+  exits : (r : Pushed) → Pushes h m (r .state) (r .heard) → Is E.the-row (r .heard) (machE (r .heard) ∷ [])
       → ent 𝓤 (sep 𝓤 (A .obs γ (T.the-row .coded .code (r .state))) (sep 𝓤 (A .bor κ (Body (mem T.the-row) b o γ)) (A .lft κ q))) (Post (machE (r .heard)))
   exits r e is =
       qed W (‵ (fobs γ (T.the-row .coded .code (r .state))) ∷ ‵ (fbor κ (Body (mem T.the-row) b o γ)) ∷ ‵ (flft κ q) ∷ []) ∵
       suffices ! _ (ends-at 𝓤 H A push.ended stayed (push.clauses 𝓤 H A at-mem run) W (((κ, tt), (q, tt), tt, x, at), tt) (machE (r .heard)) (r .heard) (r .state, (tt, tt)) (tt, (tt, tt))) $
-      says ! (ap (λ (p : Deframed). p .bytes) e, ap (λ (p : Deframed). p .state) e) $ nothing ! $ move ! (3 ∷ 0 ∷ []) $ join ! $
+      says ! e $ nothing ! $ move ! (3 ∷ 0 ∷ []) $ join ! $
       frame ! $ feqI ! (List Val) (vptr b o ∷ []) (vptr b o ∷ []) refl $ fjoin3 ! $ nothing ! $ owned ! bool (Is bool) (bool-makes 𝓤 H A W) m _ refl $ fjoin ! $ move ! (1 ∷ 0 ∷ []) $ fjoin ! $
       owned ! E.the-row (Is E.the-row) (LE.makes E.the-type E′.the-plain 𝓤 H A) (r .heard) _ is $ move ! (1 ∷ 0 ∷ []) $ done !
 
@@ -134,7 +134,7 @@ module _ {M : Type 1} (𝓤 : URA M) (H : Heap 𝓤) (A : Atoms 𝓤) (W : Given
         nothing ! $ use1 W (raw (Step 𝓤 H A at-mem run .pre to-step)) (goes-step g) $
         calls-at ! fm (Step 𝓤 H A at-mem run) known to-step (and-then ! (load ! (from ! (stop !)) (look ! 6 refl)) (and-then ! (load ! (from ! (stop !)) (look ! 10 refl)) (no-more !))) (λ v.
         use1 W (later (some (λ (r : Pushed). (‵ ftrue ⊛ ‵ (P.the-row .own r (v ∷ []))) ⊛ raw (ensured 𝓤 H A step.ended (step.clauses 𝓤 H A at-mem run) tt (h, (m, tt)) tt r)))) (id⊢ 𝓤 _) $ await ! tt $ pick ! (λ r.
-        split ! $ move ! (1 ∷ []) $ use1 W (raw (fact 𝓤 (deframed r ≡ pushBit h m))) (step-of r) $ heard ! (deframed r ≡ pushBit h m) (λ e. split ! $ drop ! $
+        split ! $ move ! (1 ∷ []) $ use1 W (raw (fact 𝓤 (Pushes h m (r .state) (r .heard)))) (step-of r) $ heard ! (Pushes h m (r .state) (r .heard)) (λ e. split ! $ drop ! $
         peeks ! P.the-row (Is P.the-row) (shows 𝓤 H A P.the-row) r (v ∷ []) (λ is.
         -- [what r owns; the struct's cell; what h owns; the open borrow; obs; auth; _4; …; room for _3; …; _2; …; _1; …; room for _0; …]
         land ! (from ! (stop !)) (init ! 8 refl (LL.lawful P.the-type P′.the-laws 𝓤 H A W .typed r _ is .0)) $

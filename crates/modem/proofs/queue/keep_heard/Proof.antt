@@ -23,6 +23,9 @@ enum-told-2 c = search needs
 enum-told-3 : tie.Need-enum-told-3
 enum-told-3 c = search needs
 
+enum-told-4 : tie.Need-enum-told-4
+enum-told-4 c = search needs
+
 returns : tie.Need-returns
 returns c = rw (c .before .before .before .h .given .1) (c .keep-at .ensures)
 
@@ -35,6 +38,9 @@ returns-3 c = rw (c .enum-told2 .given .1) (record { waits = rw append-nil; coun
 returns-4 : tie.Need-returns-4
 returns-4 c = rw (c .enum-told3 .given .1) (record { waits = rw append-nil; count = omega arith; places = c .before .before .pre .1 })
 
+returns-5 : tie.Need-returns-5
+returns-5 c = rw (c .enum-told4 .given .1) (record { waits = rw append-nil; count = omega arith; places = c .before .before .pre .1 })
+
 pub keep-heard-spec : {M : Type 1} → statement M
 keep-heard-spec =
     tie.close
@@ -44,7 +50,9 @@ keep-heard-spec =
     enum-told
     enum-told-2
     enum-told-3
+    enum-told-4
     returns
     returns-2
     returns-3
-    returns-4)
+    returns-4
+    returns-5)

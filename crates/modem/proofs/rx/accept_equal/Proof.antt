@@ -13,7 +13,8 @@ use Rattle.happenings.specs.Codes.{Codes}
 use Rattle.demodulation.specs.Listening.{HearsInto}
 use Rattle.demodulation.specs.declared.hearing.HeardAll.{HeardAll}
 use Rattle.modem.specs.Write.{refusedBy}
-use Rattle.modem.specs.Rx.{acceptedBy}
+use Rattle.modem.specs.Rx.{acceptedBy, acceptedWrite}
+use Rattle.modem.specs.Listener.{badStopsBy}
 use Rattle.modem.specs.ListenerRep.{Takes}
 use Rattle.modem.specs.RxRep.{receiverOf, RxSound}
 use Rattle.modem.specs.declared.rx.Rx.{Rx}
@@ -64,14 +65,24 @@ add-listener c =
     let s = c .before .before .before .before .before .before .before .before .before .before .before .before .before .before in
     omega (arith, passes _ _ _ (s .pre .1) .end)
 
+array-share-prefix-codes-2 : tie.Need-array-share-prefix-codes-2
+array-share-prefix-codes-2 c = search needs
+
+slice-aggregate-tally-of : tie.Need-slice-aggregate-tally-of
+slice-aggregate-tally-of c = sym (length-take-le _ _ (array-share-prefix-codes-2 (c .before)))
+
+tally-of-requires : tie.Need-tally-of-requires
+tally-of-requires c κs = search needs
+
 returns : tie.Need-returns
-unfolding receiverOf acceptedBy
+unfolding receiverOf acceptedWrite acceptedBy badStopsBy
 returns c =
-    let s = c .before .before .before .before .before .before .before .before .before .before .before .before .before .before in
-    let h = c .before .before .before .before .before .before .hear-plain in
-    let t = takes (s .args .rx) (s .args .samples .now) _ _ (h .result) (s .pre .0) (s .pre .1) (s .pre .2) (c .before .before .before .before .before .before .before .before .no-codes .ensures) (h .ensures) in
-    let q = c .before .before .before .take-in .ensures in
-    (rw (t .demod, q .bytes .waits, q .events .waits, t .heard), record { listener = t .sound; bytes = q .bytes .sound; events = q .events .sound })
+    let s = c .before .before .before .before .before .before .before .before .before .before .before .before .before .before .before .before in
+    let h = c .before .before .before .before .before .before .before .before .hear-plain in
+    let t = takes (s .args .rx) (s .args .samples .now) _ _ (h .result) (s .pre .0) (s .pre .1) (s .pre .2) (c .before .before .before .before .before .before .before .before .before .before .no-codes .ensures) (h .ensures) in
+    let q = c .before .before .before .before .before .take-in .ensures in
+    let n = c .tally-of .ensures in
+    (rw (t .demod, q .bytes .waits, q .events .waits, n .bad-stops, t .heard), record { listener = t .sound; bytes = q .bytes .sound; events = q .events .sound })
 
 pub accept-equal-spec : {M : Type 1} → statement M
 accept-equal-spec =
@@ -83,4 +94,7 @@ accept-equal-spec =
     slice-aggregate-take-in
     take-in-requires
     add-listener
+    array-share-prefix-codes-2
+    slice-aggregate-tally-of
+    tally-of-requires
     returns)

@@ -1,7 +1,8 @@
 -- What was heard has room in the queues, and the parts are the definition's. Assumes nothing.
 use mathlib.Core.Path.{sym}
 use lib.Seq.{length-take-le}
-use Rattle.modem.specs.Rx.{acceptedBy}
+use Rattle.modem.specs.Rx.{acceptedBy, acceptedWrite}
+use Rattle.modem.specs.Listener.{badStopsBy}
 use Rattle.modem.specs.RxRep.{receiverOf}
 use Rattle.modem.proofs.RxCalls.{listener-listens}
 use Rattle.modem.proofs.Receiving.{passes, bytes-fit}
@@ -35,12 +36,22 @@ take-in-requires c κs =
       room = rw (c .before .before .accept .ensures .heard) (bytes-fit _ _ _ (listener-listens (s .args .rx .listener) l) (p .room) (p .few));
     }
 
+array-share-prefix-codes-2 : tie.Need-array-share-prefix-codes-2
+array-share-prefix-codes-2 c = search needs
+
+slice-aggregate-tally-of : tie.Need-slice-aggregate-tally-of
+slice-aggregate-tally-of c = sym (length-take-le _ _ (array-share-prefix-codes-2 (c .before)))
+
+tally-of-requires : tie.Need-tally-of-requires
+tally-of-requires c κs = search needs
+
 returns : tie.Need-returns
-unfolding receiverOf acceptedBy
+unfolding receiverOf acceptedWrite acceptedBy badStopsBy
 returns c =
-    let t = c .before .before .before .before .before .accept .ensures in
-    let q = c .before .before .take-in .ensures in
-    (rw (t .demod, q .bytes .waits, q .events .waits, t .accepted, t .heard), record { listener = t .sound; bytes = q .bytes .sound; events = q .events .sound })
+    let t = c .before .before .before .before .before .before .before .accept .ensures in
+    let q = c .before .before .before .before .take-in .ensures in
+    let n = c .tally-of .ensures in
+    (rw (t .demod, q .bytes .waits, q .events .waits, t .accepted, n .bad-stops, t .heard), record { listener = t .sound; bytes = q .bytes .sound; events = q .events .sound })
 
 pub accept-other-spec : {M : Type 1} → statement M
 accept-other-spec =
@@ -51,4 +62,7 @@ accept-other-spec =
     array-share-prefix-codes
     slice-aggregate-take-in
     take-in-requires
+    array-share-prefix-codes-2
+    slice-aggregate-tally-of
+    tally-of-requires
     returns)

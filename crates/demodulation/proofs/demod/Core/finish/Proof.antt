@@ -21,7 +21,7 @@ returns c rings =
     let bit = c .before .before .before .before .before .before .slice .ensures in
     rw (
       ap (λ (x : Deframed). x .state) bit,
-      ap (λ (x : Deframed). x .bytes) bit,
+      ap (λ (x : Deframed). x .heard) bit,
       c .before .before .before .before .before .before .before .before .tick .ensures,
       c .before .before .before .before .before .before .before .before .before .event-of .ensures,
     )

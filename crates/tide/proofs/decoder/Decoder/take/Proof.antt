@@ -2,7 +2,7 @@
 use mathlib.Core.Path.{sym, ap, _∙_}
 use Rattle.tide.specs.Decoder.{moveOf}
 use borrow.Author.Needs.{needs}
-use Rattle.tide.proofs.Moves.{by-move, move-lost, move-up, move-down}
+use Rattle.tide.proofs.Moves.{by-move, move-bad, move-lost, move-up, move-down}
 use Rattle.tide.proofs.decoder.Decoder.take.Statement.{statement}
 use Rattle.tide.proofs.decoder.Decoder.take.Tie as tie
 
@@ -30,17 +30,26 @@ enum-told-3 c = search needs
 stay-requires-3 : tie.Need-stay-requires-3
 stay-requires-3 c κs = search needs
 
+enum-told-4 : tie.Need-enum-told-4
+enum-told-4 c = search needs
+
+stay-requires-4 : tie.Need-stay-requires-4
+stay-requires-4 c κs = search needs
+
 returns : tie.Need-returns
 returns c = by-move _ _ _ _ (ap moveOf (sym (c .before .before .h .given .1))) (c .add-byte .ensures)
 
 returns-2 : tie.Need-returns-2
-returns-2 c = by-move _ _ _ _ (move-lost ∙ ap moveOf (sym (c .before .enum-told .given .1))) (c .stay .ensures)
+returns-2 c = by-move _ _ _ _ (move-bad ∙ ap moveOf (sym (c .before .enum-told .given .1))) (c .stay .ensures)
 
 returns-3 : tie.Need-returns-3
-returns-3 c = by-move _ _ _ _ (move-up ∙ ap moveOf (sym (c .before .enum-told2 .given .1))) (c .stay2 .ensures)
+returns-3 c = by-move _ _ _ _ (move-lost ∙ ap moveOf (sym (c .before .enum-told2 .given .1))) (c .stay2 .ensures)
 
 returns-4 : tie.Need-returns-4
-returns-4 c = by-move _ _ _ _ (move-down ∙ ap moveOf (sym (c .before .enum-told3 .given .1))) (c .stay3 .ensures)
+returns-4 c = by-move _ _ _ _ (move-up ∙ ap moveOf (sym (c .before .enum-told3 .given .1))) (c .stay3 .ensures)
+
+returns-5 : tie.Need-returns-5
+returns-5 c = by-move _ _ _ _ (move-down ∙ ap moveOf (sym (c .before .enum-told4 .given .1))) (c .stay4 .ensures)
 
 pub take-spec : {M : Type 1} → statement M
 take-spec =
@@ -54,7 +63,10 @@ take-spec =
     stay-requires-2
     enum-told-3
     stay-requires-3
+    enum-told-4
+    stay-requires-4
     returns
     returns-2
     returns-3
-    returns-4)
+    returns-4
+    returns-5)
