@@ -34,7 +34,7 @@ differs() {
 }
 
 with_slip ""
-MORKHETTA_LIB=$library cargo build $to --features port || exit 2
+MORKHETTA_LIB=$library cargo build $to --features slips || exit 2
 slip="no slip"
 if differs replay || differs compare --quick --cases 20; then
     echo "without a slip: $words"

@@ -379,6 +379,12 @@ uint32_t morkhetta_settings_write(
     uint32_t role
 );
 
+/* The digit test of tide and settings lines: the place, counted from 0, of the
+ * first character that is not 0-9 or A-F. Where all are digits it returns how
+ * many there are. It ends at the first wrong one.
+ */
+size_t morkhetta_test_digits(const uint8_t *characters, size_t characters_len);
+
 #ifdef __cplusplus
 }
 #endif

@@ -18,7 +18,7 @@ use crate::shrink::{shrink, Case};
 use crate::side::{ORIGINAL, PORT};
 use crate::tally::{SentTally, Tally};
 use crate::text::Text;
-use crate::{refused, rooms, workers};
+use crate::{digits, refused, rooms, workers};
 
 /// All pairs of 20 kinds and 13 rates, twice.
 const ALL_CASES: usize = 520;
@@ -67,7 +67,7 @@ pub fn run(options: &Options) -> ExitCode {
         println!("    {reason}: {lines} lines");
     }
     let start = Instant::now();
-    let parts: [(&str, Part); 14] = [
+    let parts: [(&str, Part); 15] = [
         ("refused rates", refused_rates),
         ("refused boards", refused_boards),
         ("frames", frames),
@@ -81,6 +81,7 @@ pub fn run(options: &Options) -> ExitCode {
         ("sender", sender_cases),
         ("from sender to receiver", loops),
         ("board", board_cases),
+        ("digits", |o| digits::compare(o.seed, o.cases).map_err(plain)),
         ("settings", |o| settings::compare(o.seed, o.cases.div_ceil(26)).map_err(plain)),
     ];
     for (name, part) in parts {

@@ -3,6 +3,7 @@
 //!     compare [--cases N] [--seed S] [--only K] [--quick]
 //!     speed [resampler|receiver|sender|board]
 //!     rates STEP
+//!     digits
 //!     soak SAMPLES LINES [--seed S] [--program P] [--only receiver|sender|loops|lines]
 //!     loops STEP BYTES
 //!     loudest FROM TO STEP
@@ -18,6 +19,7 @@ mod cases;
 mod clock;
 mod compare;
 mod difference;
+mod digits;
 #[cfg(test)]
 mod facts;
 mod frames;
@@ -54,6 +56,7 @@ usage: compare [--cases N] [--seed S]   the same calls to both sides
        speed [resampler|receiver|sender|board]
                                         the time of both sides
        rates STEP                       the same of the sender in blocks of 64, at each STEPth rate
+       digits                           the instructions of the digit test
        soak SAMPLES LINES [--seed S]    both sides on so many samples, and the
                [--program P]            program P on so many lines
                [--only PART]            receiver, sender, loops or lines alone
@@ -80,6 +83,7 @@ fn main() -> ExitCode {
             Ok(step @ 1..=40_000) => speed::rates(step),
             _ => usage(),
         },
+        ["digits"] => digits::run(),
         ["soak", ref options @ ..] => match soak::Options::from(options) {
             Some(options) => soak::run(&options),
             None => usage(),

@@ -2,13 +2,13 @@
 //! unknown and torn lines, in buffers of every length from 0 to 300 and some longer ones.
 
 // Without the port there is nothing to compare.
-#![cfg_attr(not(feature = "port"), allow(dead_code))]
+#![cfg_attr(any(not(feature = "port"), feature = "slips"), allow(dead_code))]
 
 use crate::random::Random;
 
 const UNTOUCHED: u64 = 777_777;
 
-#[cfg(feature = "port")]
+#[cfg(all(feature = "port", not(feature = "slips")))]
 extern "C" {
     fn morkhetta_settings_read(
         buffer: *const u8,
@@ -207,7 +207,7 @@ fn some_buffer(random: &mut Random, length: usize) -> Vec<u8> {
     buffer
 }
 
-#[cfg(feature = "port")]
+#[cfg(all(feature = "port", not(feature = "slips")))]
 fn port_read(buffer: &[u8], places: usize) -> (u32, Vec<u64>) {
     let mut told = vec![UNTOUCHED; places];
     // Safety: each pointer and length come from one slice, and no slice overlaps another.
@@ -217,7 +217,7 @@ fn port_read(buffer: &[u8], places: usize) -> (u32, Vec<u64>) {
     (number, told)
 }
 
-#[cfg(feature = "port")]
+#[cfg(all(feature = "port", not(feature = "slips")))]
 fn port_write(buffer: &[u8], rate: u32, station: u16, role: u32) -> (u32, Vec<u8>) {
     let mut after = buffer.to_vec();
     // Safety: pointer and length come from one slice, lent to nobody else meanwhile.
@@ -226,7 +226,7 @@ fn port_write(buffer: &[u8], rate: u32, station: u16, role: u32) -> (u32, Vec<u8
     (number, after)
 }
 
-#[cfg(not(feature = "port"))]
+#[cfg(any(not(feature = "port"), feature = "slips"))]
 use {judged_read as port_read, judged_write as port_write};
 
 /// How often each answer was given: reads 0 and 40, writes 0, 1, 2 and 41; and unknown lines passed over.

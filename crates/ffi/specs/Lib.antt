@@ -1,3 +1,4 @@
 -- What the functions exported to C give, beside what `calls` and `snapshot` say.
+pub mod Digits
 pub mod Listen
 pub mod Settings

@@ -1,35 +1,17 @@
--- What characters say, place by place: all digits, a byte, the sum. Assumes nothing.
+-- What characters say, place by place: a byte, the sum. Assumes nothing.
 use Prim.Native.Nat.{ℕ, zero, suc, _+_, _-_, _*_, _/_, _≤_, _<_}
 use mathlib.Core.Path.{_≡_, refl}
 use mathlib.Core.Bool.{Bool, true, false, _&&_}
 use mathlib.Core.List.{List, [], _∷_}
-use lib.Dec.{ltb, leb}
+use lib.Dec.{leb}
 use lib.ListN.{length, getD, drop}
 use lib.Seq.{drop-cons, drop-length}
 use native.Mathlib.Numerals.{add-one}
 use native.Mathlib.Omega.{arith}
-use borrow.Author.Tests.{lt-ltb, le-ltb, leb-true}
+use borrow.Author.Tests.{leb-true}
 use Rattle.numeric.specs.If.{if_then_else_}
-use Rattle.hexadecimal.specs.Hex.{hex, allHex, unhex, total}
+use Rattle.hexadecimal.specs.Hex.{hex, unhex, total}
 use Rattle.hexadecimal.proofs.HexLaws.{and-right}
-
--- ---- all digits from a place on
-all-step : (s : List ℕ) (i : ℕ) → i < length s → allHex (drop i s) ≡ (ltb (hex (getD s i 0)) 16 && allHex (drop (i + 1) s))
-unfolding allHex
-all-step s i h = rw (add-one i, drop-cons s i 0 h) refl
-
-all-end : (s : List ℕ) (i : ℕ) → length s ≤ i → i ≤ length s → allHex (drop i s) ≡ true
-unfolding allHex
-all-end s i p q = let e : i ≡ length s = omega arith in rw (e, drop-length s) refl
-
-pub all-bad : (s : List ℕ) (i : ℕ) → i < length s → allHex (drop i s) ≡ allHex s → 16 ≤ hex (getD s i 0) → false ≡ allHex s
-all-bad s i h e b = rw (← e, all-step s i h, le-ltb (hex (getD s i 0)) 16 b) refl
-
-pub all-good : (s : List ℕ) (i : ℕ) → i < length s → allHex (drop i s) ≡ allHex s → hex (getD s i 0) < 16 → allHex (drop (i + 1) s) ≡ allHex s
-all-good s i h e b = rw (← e, all-step s i h, lt-ltb (hex (getD s i 0)) 16 b) refl
-
-pub all-done : (s : List ℕ) (i : ℕ) → length s ≤ i → i ≤ length s → allHex (drop i s) ≡ allHex s → true ≡ allHex s
-all-done s i p q e = rw (← e, all-end s i p q) refl
 
 -- ---- a byte at its place
 pub unhex-at : (l : List ℕ) (i : ℕ) → 2 * i + 1 < length l → getD (unhex l) i 0 ≡ 16 * hex (getD l (2 * i) 0) + hex (getD l (2 * i + 1) 0)

@@ -1,7 +1,7 @@
 -- Characters and bytes say each other. Assumes nothing.
 use Prim.Native.Nat.{ℕ, zero, suc, _+_, _-_, _*_, _/_, _%_, _<_}
 use mathlib.Core.Path.{_≡_, refl, ap}
-use mathlib.Core.Bool.{Bool, true, false, _&&_}
+use mathlib.Core.Bool.{Bool, true, false, _&&_, _||_}
 use mathlib.Core.List.{List, [], _∷_}
 use lib.Dec.{ltb, leb}
 use lib.ListN.{length, getD}
@@ -52,13 +52,17 @@ length-unhex [] = refl
 length-unhex (a ∷ []) = refl
 length-unhex (a ∷ b ∷ l) = let h = length-unhex l in omega arith
 
-and-left : (a b : Bool) → (a && b) ≡ true → a ≡ true
+pub and-left : (a b : Bool) → (a && b) ≡ true → a ≡ true
 and-left true b e = refl
 and-left false b e = e
 
 pub and-right : (a b : Bool) → (a && b) ≡ true → b ≡ true
 and-right true b e = e
 and-right false b e = cc
+
+pub or-false : (a b : Bool) → (a || b) ≡ false → (a ≡ false) × (b ≡ false)
+or-false true b e = absurd (let y : _≡_ {A = ℕ} 0 1 = cc in omega arith)
+or-false false b e = (refl, e)
 
 -- two digits more
 two-digits : (a b : ℕ) (l : List ℕ) → allHex (a ∷ b ∷ l) ≡ true → (hex a < 16) × (hex b < 16) × (allHex l ≡ true)

@@ -4,7 +4,7 @@ ghost use mathlib.Core.Path.{_≡_};
 ghost use mathlib.Core.Bool.{true};
 ghost use Prim.Native.Nat.{_%_, _≤_, _<_};
 ghost use lib.ListN.{getD};
-ghost use Rattle.hexadecimal.specs.Hex.{hex, allHex, unhex, total};
+ghost use Rattle.hexadecimal.specs.Hex.{hex, allHex, firstWrong, Says, unhex, total};
 
 // The value of a character, and 16 of one that is no digit.
 pub fn digit(c: u8) -> u8
@@ -25,18 +25,24 @@ pub fn digit(c: u8) -> u8
     16
 }
 
-// Whether every character is a digit.
-pub fn all_digits(s: &[u8]) -> bool
-    ensures { λ r. ⌜ r ≡ allHex (now (s .entry)) ⌝ }
+// What the digit test finds: none that is wrong, or the place of the first that is, counted from 0.
+pub enum Digits {
+    AllDigits,
+    WrongAt(usize),
+}
+
+// The digit test. The one loop returns at the first wrong character, and reads none behind it.
+pub fn test_digits(s: &[u8]) -> Digits
+    ensures { λ r. ⌜ (r ≡ firstWrong (now (s .entry))) × Says (now (s .entry)) r ⌝ }
 {
     let mut i = 0;
     while i < s.len() {
         if digit(s[i]) >= 16 {
-            return false;
+            return Digits::WrongAt(i);
         }
         i += 1;
     }
-    true
+    Digits::AllDigits
 }
 
 // Byte i of those that the characters say, and 0 where there is none.

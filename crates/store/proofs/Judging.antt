@@ -1,21 +1,21 @@
 -- What a line is judged to be, check by check, and the lines that a writer makes. Assumes nothing.
 use Prim.Native.Nat.{ℕ, _+_, _*_, _/_, _%_, _≤_, _<_}
 use mathlib.Core.Path.{_≡_, refl, sym, ap, _∙_}
-use mathlib.Core.Bool.{Bool, true, false, _||_}
+use mathlib.Core.Bool.{Bool, true, false}
 use mathlib.Core.List.{List, [], _∷_}
 use lib.Dec.{ltb, eqb}
 use lib.ListN.{length, getD}
 use native.Mathlib.Omega.{arith}
 use borrow.Author.Tests.{ltb-false, le-leb, eq-eqb, ne-eqb}
 use Rattle.refusal.specs.Refusals.{rateRefused}
-use Rattle.hexadecimal.specs.Hex.{digit, allHex, unhex, hexLine, total, Bytes}
-use Rattle.hexadecimal.proofs.HexLaws.{unhex-hexLine, allHex-hexLine, length-hexLine}
+use Rattle.hexadecimal.specs.Hex.{digit, allHex, unhex, hexLine, total, checkOf, Bytes}
+use Rattle.hexadecimal.proofs.HexLaws.{unhex-hexLine, allHex-hexLine, length-hexLine, or-false}
 use Rattle.numeric.specs.If.{if_then_else_}
 use Rattle.bell103.specs.declared.Role.{Role}
 use Rattle.bell103.specs.declared.Role.the-variants.{Originate, Answer}
 use Rattle.store.specs.declared.line.Settings.{Settings}
 use Rattle.store.specs.declared.line.Judged.the-variants.{Good, UnknownVersion, Damaged}
-use Rattle.store.specs.Line.{wordAt, versionOf, withRole, ofVersion1, whole, judged, roleByte, checkOf, frameOf}
+use Rattle.store.specs.Line.{wordAt, versionOf, withRole, ofVersion1, whole, judged, roleByte, frameOf}
 use Rattle.store.specs.Claims.{NoEnd, Admitted, OtherVersion}
 
 -- ---- the code's checks
@@ -35,16 +35,16 @@ module _ (f : List ℕ) (seven : length f ≡ 7) (r : ℕ) (t : Bool) (er : r �
     by-role h o eo = rw (eq-eqb (length f) 7 seven, ← er, ← et, good, ← es, ne-eqb s 0 h, ← eo) refl
 
 -- an even number of digits, two or more
-pub record Digits (l : List ℕ) : Type 0 where
+pub record WholeBytes (l : List ℕ) : Type 0 where
   pub least : 2 ≤ length l
   pub even : length l % 2 ≡ 0
   pub digits : allHex l ≡ true
 
-pub no-sum : (l : List ℕ) → Digits l → (total (unhex l) % 256 ≡ 0 → ⊥) → Damaged ≡ judged l
+pub no-sum : (l : List ℕ) → WholeBytes l → (total (unhex l) % 256 ≡ 0 → ⊥) → Damaged ≡ judged l
 unfolding judged whole
 no-sum l p h = rw (le-leb 2 (length l) (p .least), eq-eqb (length l % 2) 0 (p .even), p .digits, ne-eqb (total (unhex l) % 256) 0 h) refl
 
-pub by-version : (l : List ℕ) → Digits l → total (unhex l) % 256 ≡ 0
+pub by-version : (l : List ℕ) → WholeBytes l → total (unhex l) % 256 ≡ 0
     → (if eqb (versionOf (unhex l)) 1 then ofVersion1 (unhex l) else UnknownVersion) ≡ judged l
 unfolding judged whole
 by-version l p s = rw (le-leb 2 (length l) (p .least), eq-eqb (length l % 2) 0 (p .even), p .digits, eq-eqb (total (unhex l) % 256) 0 s) refl
@@ -66,7 +66,7 @@ pub bytes-judged : (f : List ℕ) → Bytes f → 1 ≤ length f → total f % 2
 bytes-judged f p n s =
     let u = unhex-hexLine f p in
     let l = length-hexLine f in
-    let d : Digits (hexLine f) = record { least = omega arith; even = omega arith; digits = allHex-hexLine f p } in
+    let d : WholeBytes (hexLine f) = record { least = omega arith; even = omega arith; digits = allHex-hexLine f p } in
     sym (by-version (hexLine f) d (ap (λ (x : List ℕ). total x % 256) u ∙ s))
     ∙ ap (λ (x : List ℕ). if eqb (versionOf x) 1 then ofVersion1 x else UnknownVersion) u
 
@@ -74,10 +74,6 @@ pub other-judged : (f : List ℕ) → OtherVersion f → judged (hexLine f) ≡ 
 other-judged f o = bytes-judged f (o .bytes) (o .some) (o .sums) ∙ rw (ne-eqb (versionOf f) 1 (o .version)) refl
 
 -- ---- the writer's line
-or-false : (a b : Bool) → (a || b) ≡ false → (a ≡ false) × (b ≡ false)
-or-false true b e = absurd (let y : _≡_ {A = ℕ} 0 1 = cc in omega arith)
-or-false false b e = (refl, e)
-
 -- an admitted rate fits two bytes
 pub rate-fits : (r : ℕ) → rateRefused r ≡ false → r < 65536
 unfolding rateRefused

@@ -6,7 +6,7 @@ use lib.Dec.{leb, eqb}
 use lib.ListN.{length, getD}
 use Rattle.numeric.specs.If.{if_then_else_}
 use Rattle.refusal.specs.Refusals.{rateRefused}
-use Rattle.hexadecimal.specs.Hex.{allHex, unhex, hexLine, total}
+use Rattle.hexadecimal.specs.Hex.{allHex, unhex, hexLine, total, checkOf}
 use Rattle.bell103.specs.declared.Role.{Role}
 use Rattle.bell103.specs.declared.Role.the-variants.{Originate, Answer}
 use Rattle.store.specs.declared.line.Judged.{Judged}
@@ -51,10 +51,6 @@ roleByte Answer = 1
 -- all bytes but the last
 abbrev pub bodyOf : ℕ → ℕ → Role → List ℕ
 bodyOf rate station role = 1 ∷ (rate / 256) ∷ (rate % 256) ∷ (station / 256) ∷ (station % 256) ∷ roleByte role ∷ []
-
--- "and a byte making the sum divisible by 256": that byte, for the sum of the others
-unfoldable pub checkOf : ℕ → ℕ
-checkOf s = (256 - s % 256) % 256
 
 -- the bytes of a line, and the line with the 0A (10) that ends it
 unfoldable pub frameOf : ℕ → ℕ → Role → List ℕ

@@ -1,15 +1,16 @@
 // A settings line, without the 0A that ends it: what it is judged to be, and the line that a writer makes.
 use bell103::Role;
-use hexadecimal::all_digits;
+use hexadecimal::Digits;
 use hexadecimal::byte;
 use hexadecimal::sum;
+use hexadecimal::test_digits;
 use refusal::rate_ok;
 ghost use mathlib.Core.Path.{_≡_};
 ghost use mathlib.Core.Bool.{true};
 ghost use Prim.Native.Nat.{_+_, _/_, _%_, _<_};
 ghost use Rattle.hexadecimal.specs.Hex as hex;
-ghost use Rattle.hexadecimal.specs.Hex.{allHex, unhex, total};
-ghost use Rattle.store.specs.Line.{wordAt, withRole, ofVersion1, judged, roleByte, bodyOf, checkOf, lineOf};
+ghost use Rattle.hexadecimal.specs.Hex.{allHex, unhex, total, checkOf};
+ghost use Rattle.store.specs.Line.{wordAt, withRole, ofVersion1, judged, roleByte, bodyOf, lineOf};
 
 // What a dealer sets before casting.
 pub struct Settings {
@@ -86,9 +87,9 @@ pub(crate) fn judge(s: &[u8]) -> Judged
     if odd == 1 {
         return Judged::Damaged;
     }
-    if !all_digits(s) {
+    let Digits::AllDigits = test_digits(s) else {
         return Judged::Damaged;
-    }
+    };
     let t = sum(s);
     if t != 0 {
         return Judged::Damaged;

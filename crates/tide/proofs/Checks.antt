@@ -13,7 +13,8 @@ use Rattle.numeric.specs.If.{if_then_else_}
 use Rattle.refusal.specs.Refusals.{first}
 use Rattle.hexadecimal.specs.Hex.{unhex, allHex, total}
 use Rattle.tide.specs.Frame.{stampOf, ageOf, misfit}
-use Rattle.tide.proofs.JudgeLaws.{first-zero, or-false, not-false}
+use Rattle.tide.proofs.JudgeLaws.{first-zero, not-false}
+use Rattle.hexadecimal.proofs.HexLaws.{or-false}
 
 -- neither 11 nor 12 nor 13 applies
 pub record Past13 (l : List ℕ) (more : Bool) : Type 0 where

@@ -10,9 +10,9 @@ use lib.Seq.{drop-cons}
 use native.Mathlib.Omega.{arith}
 use borrow.Author.Tests.{lt-ltb, le-ltb, ltb-true, ltb-false}
 use Rattle.numeric.specs.If.{if_then_else_}
-use Rattle.tide.specs.Frame.{stationOf, stampOf, ageOf, levelOf, signed, Intact, Writer, Signed16, Rules, bitsOf, headOf, bodyOf, checkOf, frameOf}
+use Rattle.tide.specs.Frame.{stationOf, stampOf, ageOf, levelOf, signed, Intact, Writer, Signed16, Rules, bitsOf, headOf, bodyOf, frameOf}
 use Rattle.hexadecimal.proofs.HexLaws.{byte-at}
-use Rattle.hexadecimal.specs.Hex.{Bytes, total}
+use Rattle.hexadecimal.specs.Hex.{Bytes, total, checkOf}
 
 bytes-append : (f g : List ℕ) → Bytes f → Bytes g → Bytes (f ++ g)
 bytes-append [] g p q = q

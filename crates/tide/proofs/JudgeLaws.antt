@@ -14,7 +14,7 @@ use Rattle.refusal.specs.Refusals.{first}
 use Rattle.hexadecimal.specs.Hex.{allHex, unhex, hexLine, total}
 use Rattle.tide.specs.Frame.{versionOf, readerOf, saidLength, stationOf, stampOf, ageOf, levelOf, signed, waterOf, Intact, Writer, Rules, bitsOf, frameOf, lineBy}
 use Rattle.tide.specs.Judge.{damageOf, Passes, Passed, Readable, Past17, ofFields, judgedOf, ofLine, readingOf, Shown, shows, Verdict, later, settle, judge}
-use Rattle.hexadecimal.proofs.HexLaws.{unhex-hexLine, allHex-hexLine, length-hexLine, length-unhex, unhex-bytes, hexLine-unhex}
+use Rattle.hexadecimal.proofs.HexLaws.{unhex-hexLine, allHex-hexLine, length-hexLine, length-unhex, unhex-bytes, hexLine-unhex, or-false}
 use Rattle.tide.proofs.FrameLaws.{says-station, says-stamp, says-age, says-level, signed-bits, frame-intact, written}
 
 -- ---- an intact frame's line passes 11 to 16, and its number goes by its least reader and its fields alone
@@ -94,10 +94,6 @@ pub first-zero : (t : Bool) (n r : ℕ) → first t (suc n) r ≡ 0 → (t ≡ f
 unfolding first
 first-zero true n r e = absurd (omega arith)
 first-zero false n r e = (refl, e)
-
-pub or-false : (a b : Bool) → (a || b) ≡ false → (a ≡ false) × (b ≡ false)
-or-false true b e = absurd (let y : _≡_ {A = ℕ} 0 1 = cc in omega arith)
-or-false false b e = (refl, e)
 
 pub not-false : (a : Bool) → not a ≡ false → a ≡ true
 not-false true e = refl

@@ -6,8 +6,8 @@ use Prim.Native.String.{String, [] as empty, _∷_ as _then_}
 use mathlib.Core.Path.{_≡_, refl}
 use mathlib.Core.List.{List, [], _∷_}
 use lib.IntN.{ℤ, pos, negsuc}
-use Rattle.hexadecimal.specs.Hex.{digit, hexLine, total}
-use Rattle.tide.specs.Frame.{Writer, bitsOf, checkOf, frameOf, lineBy}
+use Rattle.hexadecimal.specs.Hex.{digit, hexLine, total, checkOf}
+use Rattle.tide.specs.Frame.{Writer, bitsOf, frameOf, lineBy}
 
 -- the bytes of a text
 unfoldable pub text : String → List ℕ

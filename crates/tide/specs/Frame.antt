@@ -7,7 +7,7 @@ use lib.Dec.{ltb, eqb}
 use lib.IntN.{ℤ, pos, negsuc}
 use lib.ListN.{length, getD}
 use Rattle.numeric.specs.If.{if_then_else_}
-use Rattle.hexadecimal.specs.Hex.{hexLine, total, Bytes}
+use Rattle.hexadecimal.specs.Hex.{hexLine, total, checkOf, Bytes}
 
 -- ---- the fields; "Wide fields come high byte first"
 -- "b0 version V"
@@ -114,10 +114,6 @@ headOf w =
 -- all but the last byte
 abbrev pub bodyOf : Writer → List ℕ
 bodyOf w = headOf w ++ w .later
-
--- "the last byte makes the sum of all n divisible by 256": that byte, for the sum of the others
-unfoldable pub checkOf : ℕ → ℕ
-checkOf s = (256 - s % 256) % 256
 
 -- the frame that it makes, and the line that it writes
 unfoldable pub frameOf : Writer → List ℕ

@@ -4,9 +4,10 @@ use crate::frame::level_bits;
 use crate::frame::level_of;
 use crate::frame::stamp_of;
 use crate::frame::station_of;
-use hexadecimal::all_digits;
+use hexadecimal::Digits;
 use hexadecimal::byte;
 use hexadecimal::sum;
+use hexadecimal::test_digits;
 ghost use mathlib.Core.Path.{_≡_};
 ghost use mathlib.Core.Bool.{true};
 ghost use Prim.Native.Nat.{_≤_};
@@ -90,24 +91,24 @@ fn damage_of(s: &[u8], more: bool) -> u8
     if odd == 1 {
         return 12;
     }
-    if all_digits(s) {
-        let bytes = n / 2;
-        let said = byte(s, 2) as usize;
-        if said != bytes {
-            return 14;
-        }
-        let t = sum(s);
-        if t != 0 {
-            return 15;
-        }
-        let v = byte(s, 0);
-        let f = byte(s, 1);
-        if misfit(v, f, bytes) {
-            return 16;
-        }
-        return 0;
+    let Digits::AllDigits = test_digits(s) else {
+        return 13;
+    };
+    let bytes = n / 2;
+    let said = byte(s, 2) as usize;
+    if said != bytes {
+        return 14;
     }
-    13
+    let t = sum(s);
+    if t != 0 {
+        return 15;
+    }
+    let v = byte(s, 0);
+    let f = byte(s, 1);
+    if misfit(v, f, bytes) {
+        return 16;
+    }
+    0
 }
 
 // The first of 17 to 20 that applies to the frame that a line of digits says, else 0.

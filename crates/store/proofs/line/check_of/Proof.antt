@@ -1,7 +1,6 @@
 -- The sum of the six bytes before it. Assumes nothing.
 use native.Mathlib.Omega.{arith}
-use Rattle.hexadecimal.specs.Hex.{total}
-use Rattle.store.specs.Line.{checkOf}
+use Rattle.hexadecimal.specs.Hex.{total, checkOf}
 use borrow.Author.Needs.{needs}
 use Rattle.store.proofs.line.check_of.Statement.{statement}
 use Rattle.store.proofs.line.check_of.Tie as tie
