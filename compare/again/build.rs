@@ -6,7 +6,7 @@ use std::fs;
 use std::path::Path;
 
 /// The files of the comparison that stand before the original on either side.
-const BEFORE: [&str; 2] = ["judge.rs", "oracle.rs"];
+const BEFORE: [&str; 3] = ["hearing.rs", "judge.rs", "oracle.rs"];
 
 /// MODEM_SLIP names the slip to build in; none by default.
 fn main() {

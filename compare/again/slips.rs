@@ -1,11 +1,11 @@
 // Slips that a porter makes, document 01's and others, as edits of the second
-// copy of the original, or of what stands before it (oracle.rs and judge.rs of
-// the comparison). The comparison must find each one: `slips.sh` runs them all. So it is known that the signals reach the place in question, and
+// copy of the original, or of what stands before it (hearing.rs, judge.rs and
+// oracle.rs of the comparison). The comparison must find each one: `slips.sh` runs them all. So it is known that the signals reach the place in question, and
 // that a difference there is seen.
 
 use crate::copy::Slip;
 
-pub const SLIPS: [Slip; 40] = [
+pub const SLIPS: [Slip; 48] = [
     Slip {
         name: "residue-wrapped",
         file: "rx.rs",
@@ -111,14 +111,62 @@ pub const SLIPS: [Slip; 40] = [
     Slip {
         name: "bad-stops-since-fresh",
         file: "judge.rs",
-        old: "answer[4] = (receiver.rx.framing_errors() - before) as u64;",
-        new: "answer[4] = receiver.rx.framing_errors() as u64; let _ = before;",
+        old: "        answer\n    }",
+        new: "        answer[4] = self.ears.receiver.rx.framing_errors() as u64;\n        answer\n    }",
     },
     Slip {
         name: "bad-stops-told-by-a-refused-write",
         file: "oracle.rs",
         old: "answer[5] = stops as u64;",
         new: "answer[5] = stops as u64 + u64::from(answer[0] != 0);",
+    },
+    Slip {
+        name: "half-byte-kept-by-a-board",
+        file: "hearing.rs",
+        old: "pub const BOARD: Manner = Manner { drops_half_byte: true };",
+        new: "pub const BOARD: Manner = Manner { drops_half_byte: false };",
+    },
+    Slip {
+        name: "loss-of-a-reported-carrier-alone",
+        file: "hearing.rs",
+        old: "if detected && !rx.energy_carrier.detected {",
+        new: "if detected && !rx.energy_carrier.detected && rx.qualified_ever {",
+    },
+    Slip {
+        name: "line-kept-at-a-loss",
+        file: "judge.rs",
+        old: "        self.line.clear();\n        self.skipping = true;\n",
+        new: "        self.skipping = true;\n",
+    },
+    Slip {
+        name: "nothing-skipped",
+        file: "judge.rs",
+        old: "        self.line.clear();\n        self.skipping = true;\n",
+        new: "        self.line.clear();\n",
+    },
+    Slip {
+        name: "end-of-what-is-skipped-judged",
+        file: "judge.rs",
+        old: "            self.skipping = byte != b'\\n';\n            return None;\n",
+        new: "            self.skipping = byte != b'\\n';\n            if self.skipping { return None; }\n",
+    },
+    Slip {
+        name: "skipped-text-counted-as-a-line",
+        file: "judge.rs",
+        old: "                    answer[1] += 1;\n",
+        new: "                    answer[1] += 1;\n                    answer[2] += u64::from(self.judge.skipping && byte == b'\\n');\n",
+    },
+    Slip {
+        name: "skipped-bytes-not-heard",
+        file: "judge.rs",
+        old: "                    answer[1] += 1;\n",
+        new: "                    answer[1] += u64::from(!self.judge.skipping);\n",
+    },
+    Slip {
+        name: "loss-at-the-end-of-the-write",
+        file: "judge.rs",
+        old: "        for happening in heard {\n",
+        new: "        let mut heard = heard;\n        heard.sort_by_key(|h| matches!(h, Heard::Lost { .. }));\n        for happening in heard {\n",
     },
     Slip {
         name: "highest-bit-first",

@@ -63,6 +63,9 @@ fn adapt(name: &str, text: &str, changes: &mut Vec<String>) -> String {
             root_line(line)
         } else if in_struct && is_private_field(line) {
             Some((format!("    pub {}", line.trim_start()), "field made visible"))
+        } else if name == "rx.rs" && line.starts_with("    fn push_sample(") {
+            // A board's receiver is looked at behind each step.
+            Some((format!("    pub {}", line.trim_start()), "function made visible"))
         } else {
             None
         };

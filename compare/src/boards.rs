@@ -3,6 +3,7 @@
 //! they show after it.
 
 use crate::cases::{rate_of, Cut};
+use crate::judge::{board_refusal, Board, Losses};
 use crate::layout::*;
 use crate::lines::line;
 use crate::random::Random;
@@ -46,6 +47,7 @@ pub struct Seen {
     pub lists: usize,
     /// Cases that were compared after every write.
     pub every: usize,
+    pub losses: Losses,
 }
 
 impl BoardCase {
@@ -106,8 +108,31 @@ impl BoardCase {
         tape.idle(how, 12);
         let samples = tape.finish();
         let lengths = vec![1_000; samples.len().div_ceil(1_000)];
+        BoardCase::whole(8_000, 7, ANSWER, samples, lengths)
+    }
+
+    /// With room for every answer and for what is shown.
+    pub fn whole(
+        rate: u32,
+        station: u16,
+        role: u32,
+        samples: Vec<f32>,
+        lengths: Vec<u32>,
+    ) -> BoardCase {
         let answers = JUDGED * lengths.len();
-        BoardCase { rate: 8_000, station: 7, role: ANSWER, samples, lengths, answers, shown: SHOWN }
+        BoardCase { rate, station, role, samples, lengths, answers, shown: SHOWN }
+    }
+
+    /// The losses of the independent board on the whole list, and what it shows.
+    pub fn model(&self) -> (Losses, [u64; SHOWN]) {
+        let mut board = Board::new(self.rate, self.station, self.role);
+        let mut rest = &self.samples[..];
+        for &length in &self.lengths {
+            let (block, behind) = rest.split_at(rest.len().min(length as usize));
+            board.write(block);
+            rest = behind;
+        }
+        (board.losses, board.shown())
     }
 
     fn run(&self, side: &Side, writes: usize) -> Listened {
@@ -143,8 +168,11 @@ impl BoardCase {
             seen.lists += 1;
             if a != b {
                 return Err(format!(
-                    "rate {}, station {}, role {}, {writes} writes: {} from the original, {} from the port",
-                    self.rate, self.station, self.role, words(&a), words(&b)
+                    "rate {}, station {}, role {}, {writes} writes: {}",
+                    self.rate,
+                    self.station,
+                    self.role,
+                    words(&a, &b)
                 ));
             }
         }
@@ -154,6 +182,9 @@ impl BoardCase {
         seen.bad_stops += told.map(|a| a[4]).sum::<u64>();
         if whole.writes > 0 && self.shown >= SHOWN {
             seen.answers.copy_from_slice(&whole.shown[3..SHOWN]);
+        }
+        if board_refusal(self.rate, self.station) == 0 {
+            seen.losses = self.model().0;
         }
         Ok(seen)
     }
@@ -170,14 +201,21 @@ impl Seen {
             all.bad_stops += case.bad_stops;
             all.lists += case.lists;
             all.every += case.every;
+            all.losses.join(&case.losses);
         }
         all
     }
 }
 
-fn words(l: &Listened) -> String {
-    let last = l.answers.chunks_exact(JUDGED).take(l.writes).next_back();
-    format!("{} writes, the last one {last:?}, shown {:?}", l.writes, l.shown)
+/// The first write that is answered otherwise, or what is shown behind the last.
+fn words(a: &Listened, b: &Listened) -> String {
+    let answers = a.answers.chunks(JUDGED).zip(b.answers.chunks(JUDGED)).enumerate();
+    let (what, a, b) = match answers.into_iter().find(|(_, (a, b))| a != b) {
+        _ if a.writes != b.writes => ("run".into(), vec![a.writes as u64], vec![b.writes as u64]),
+        Some((i, (a, b))) => (format!("write {i}"), a.to_vec(), b.to_vec()),
+        None => ("shown".into(), a.shown.clone(), b.shown.clone()),
+    };
+    format!("{what}: {a:?} from the original, {b:?} from the port")
 }
 
 /// A call: lines with pauses, at times with noise, a lost carrier or a clock

@@ -18,7 +18,7 @@ use crate::shrink::{shrink, Case};
 use crate::side::{ORIGINAL, PORT};
 use crate::tally::{SentTally, Tally};
 use crate::text::Text;
-use crate::{digits, refused, rooms, workers};
+use crate::{broken, digits, refused, rooms, workers};
 
 /// All pairs of 20 kinds and 13 rates, twice.
 const ALL_CASES: usize = 520;
@@ -29,13 +29,16 @@ pub struct Options {
     seed: u64,
     /// One receiver case alone.
     only: Option<usize>,
+    /// The parts whose names begin so; all where it is empty.
+    part: String,
     /// No search for a smaller case.
     quick: bool,
 }
 
 impl Options {
     pub fn from(words: &[&str]) -> Option<Options> {
-        let mut options = Options { cases: ALL_CASES, seed: 1, only: None, quick: false };
+        let mut options =
+            Options { cases: ALL_CASES, seed: 1, only: None, part: String::new(), quick: false };
         let mut words = words.iter();
         while let Some(&name) = words.next() {
             match name {
@@ -43,6 +46,7 @@ impl Options {
                 "--cases" => options.cases = words.next()?.parse().ok()?,
                 "--seed" => options.seed = words.next()?.parse().ok()?,
                 "--only" => options.only = Some(words.next()?.parse().ok()?),
+                "--part" => options.part = words.next()?.to_string(),
                 _ => return None,
             }
         }
@@ -67,7 +71,7 @@ pub fn run(options: &Options) -> ExitCode {
         println!("    {reason}: {lines} lines");
     }
     let start = Instant::now();
-    let parts: [(&str, Part); 15] = [
+    let parts: [(&str, Part); 16] = [
         ("refused rates", refused_rates),
         ("refused boards", refused_boards),
         ("frames", frames),
@@ -81,11 +85,12 @@ pub fn run(options: &Options) -> ExitCode {
         ("sender", sender_cases),
         ("from sender to receiver", loops),
         ("board", board_cases),
+        ("board, calls that break off", broken_calls),
         ("digits", |o| digits::compare(o.seed, o.cases).map_err(plain)),
         ("settings", |o| settings::compare(o.seed, o.cases.div_ceil(26)).map_err(plain)),
     ];
     for (name, part) in parts {
-        if options.only.is_some() && name != "receiver" {
+        if options.only.is_some() && name != "receiver" || !name.starts_with(&options.part) {
             continue;
         }
         let begun = Instant::now();
@@ -104,7 +109,7 @@ pub fn run(options: &Options) -> ExitCode {
         }
     }
     println!("0 differences, {:.0} s", start.elapsed().as_secs_f64());
-    if options.only.is_some() || options.cases < ALL_CASES {
+    if options.only.is_some() || !options.part.is_empty() || options.cases < ALL_CASES {
         println!("this is not the whole comparison");
         return ExitCode::from(3);
     }
@@ -362,15 +367,63 @@ fn receiver_cases(options: &Options) -> Result<String, Found> {
     Ok(format!("{cases} cases, 0 differences"))
 }
 
-/// The board against the original's receiver and an independent judge.
+/// The board against the independent one: lines and noise.
 fn board_cases(options: &Options) -> Result<String, Found> {
     let cases = options.cases / 8;
-    let seen = workers::all(0..cases + 1, |index| {
-        let mut random = Random::of_case(options.seed ^ 0x424F, index as u64);
-        let case = match index {
-            _ if index == cases => BoardCase::with_every_answer(),
-            _ => BoardCase::random(index, &mut random),
-        };
+    let seen = boards(options, 0x424F, cases + 1, |index, random| match index {
+        _ if index == cases => BoardCase::with_every_answer(),
+        _ => BoardCase::random(index, random),
+    })?;
+    let every_answer = seen.answers.iter().all(|&n| n > 0);
+    reached(options, &[("a refused write", seen.refused > 0), ("an answer", every_answer)])?;
+    reached(options, &[("a board's bad stop", seen.bad_stops > 0)])?;
+    Ok(listed(cases + 1, &seen))
+}
+
+/// Likewise: calls that break off, and what comes behind them.
+fn broken_calls(options: &Options) -> Result<String, Found> {
+    let found = 2 * broken::SLOW_RATES.len();
+    let cases = options.cases / 8 + found;
+    let seen = boards(options, 0x4C4F_5353, cases, |index, random| {
+        let (rate, role) = (broken::SLOW_RATES.get(index / 2), index as u32 % 2);
+        rate.map_or_else(
+            || broken::random(index - found, random),
+            |&rate| broken::found_again(rate, role),
+        )
+    })?;
+    let losses = &seen.losses;
+    println!(
+        "    {} losses: {} in mid byte; {} in mid line, {} behind an end, {} while skipping; {} in a write that then hears a 0A; {} bytes skipped",
+        losses.all,
+        losses.in_a_byte,
+        losses.in_a_line,
+        losses.behind_an_end,
+        losses.while_skipping,
+        losses.before_an_end,
+        losses.skipped
+    );
+    reached(
+        options,
+        &[
+            ("a loss in mid byte", losses.in_a_byte > 0),
+            ("a loss in mid line", losses.in_a_line > 0),
+            ("a loss behind a line's end", losses.behind_an_end > 0),
+            ("a loss while skipping", losses.while_skipping > 0),
+            ("a loss and then a 0A in one write", losses.before_an_end > 0),
+        ],
+    )?;
+    Ok(listed(cases, &seen))
+}
+
+/// What so many cases brought about, where nothing differs.
+fn boards(
+    options: &Options,
+    salt: u64,
+    cases: usize,
+    case_of: impl Fn(usize, &mut Random) -> BoardCase + Sync,
+) -> Result<Seen, Found> {
+    let seen = workers::all(0..cases, |index| {
+        let case = case_of(index, &mut Random::of_case(options.seed ^ salt, index as u64));
         let name = format!("case {index} of seed {}: ", options.seed);
         case.seen().map_err(|words| plain(format!("{name}{words}")))
     })?;
@@ -379,15 +432,14 @@ fn board_cases(options: &Options) -> Result<String, Found> {
         "    {} writes, {} refused; {} bytes, {} bad stops; lines answered 0, 11 to 20, 34: {:?}",
         seen.writes, seen.refused, seen.bytes, seen.bad_stops, seen.answers
     );
-    let every_answer = seen.answers.iter().all(|&n| n > 0);
-    reached(options, &[("a refused write", seen.refused > 0), ("an answer", every_answer)])?;
-    reached(options, &[("a board's bad stop", seen.bad_stops > 0)])?;
-    Ok(format!(
-        "{} cases, {} of them after every write, {} lists of writes, 0 differences",
-        cases + 1,
-        seen.every,
-        seen.lists
-    ))
+    Ok(seen)
+}
+
+fn listed(cases: usize, seen: &Seen) -> String {
+    format!(
+        "{cases} cases, {} of them after every write, {} lists of writes, 0 differences",
+        seen.every, seen.lists
+    )
 }
 
 pub fn check_receiver(case: &ReceiverCase, name: &str) -> Result<Heard, Found> {

@@ -13,6 +13,19 @@ fn sum_byte(frame: &[u8]) -> u8 {
     frame.iter().fold(0u8, |sum, b| sum.wrapping_add(*b)).wrapping_neg()
 }
 
+/// A good line of version 1 with its end, five minutes old.
+pub fn good_line(station: u16, stamp: u32, level: i16) -> Vec<u8> {
+    let mut frame = vec![1, 1, 13];
+    frame.extend(station.to_be_bytes());
+    frame.extend(stamp.to_be_bytes());
+    frame.push(5);
+    frame.extend(level.to_be_bytes());
+    frame.push(sum_byte(&frame));
+    let mut text = text_of(&frame);
+    text.push(b'\n');
+    text
+}
+
 /// A line's bytes with its end: most are good, the others fail a check each.
 /// The stamps are near the newest, and once in `far` the least or greatest.
 pub fn line(random: &mut Random, station: u16, newest: &mut u32, far: u32) -> Vec<u8> {

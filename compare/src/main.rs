@@ -1,6 +1,6 @@
 //! Holds the port against the Rust original, bit for bit.
 //!
-//!     compare [--cases N] [--seed S] [--only K] [--quick]
+//!     compare [--cases N] [--seed S] [--only K] [--part P] [--quick]
 //!     speed [resampler|receiver|sender|board]
 //!     rates STEP
 //!     digits
@@ -15,6 +15,7 @@
 //!     changes
 
 mod boards;
+mod broken;
 mod cases;
 mod clock;
 mod compare;
@@ -24,6 +25,7 @@ mod digits;
 mod facts;
 mod frames;
 mod hear;
+mod hearing;
 mod judge;
 mod layout;
 mod lines;
@@ -52,6 +54,7 @@ use std::process::ExitCode;
 const USAGE: &str = "\
 usage: compare [--cases N] [--seed S]   the same calls to both sides
                [--only K]               receiver case K alone
+               [--part P]               the parts alone whose names begin with P
                [--quick]                no search for a smaller case
        speed [resampler|receiver|sender|board]
                                         the time of both sides

@@ -210,7 +210,7 @@ pub fn config(rate: u32, role: u32) -> Config {
 /// A receiver of the original with document 01's refusals before it.
 pub struct Receiver {
     pub rx: Rx,
-    accepted: u64,
+    pub accepted: u64,
 }
 
 impl Receiver {
@@ -218,8 +218,8 @@ impl Receiver {
         Receiver { rx: Rx::new(config(rate, role)), accepted: 0 }
     }
 
-    /// 0, or the number of the refusal.
-    pub fn write(&mut self, samples: &[f32]) -> u64 {
+    /// 0, or the number with which a write of these samples is refused.
+    pub fn refusal(&self, samples: &[f32]) -> u64 {
         if samples.len() > MOST_SAMPLES {
             return 3;
         }
@@ -232,9 +232,17 @@ impl Receiver {
         if self.rx.out.len() > MOST_WAITING_BYTES {
             return 32;
         }
-        self.rx.write(samples);
-        self.accepted += samples.len() as u64;
         0
+    }
+
+    /// 0, or the number of the refusal.
+    pub fn write(&mut self, samples: &[f32]) -> u64 {
+        let number = self.refusal(samples);
+        if number == 0 {
+            self.rx.write(samples);
+            self.accepted += samples.len() as u64;
+        }
+        number
     }
 
     /// Drains events into the slice, as many as both have.
@@ -251,7 +259,7 @@ impl Receiver {
     }
 
     /// Hands out the receiver's state in the order of `layout::STATE`.
-    fn each_place(&self, place: &mut dyn FnMut(f64)) {
+    pub fn each_place(&self, place: &mut dyn FnMut(f64)) {
         let rx = &self.rx;
         each_of_resampler(&rx.resampler, place);
 

@@ -30,6 +30,7 @@ impl Tones {
 }
 
 /// A recording that is being made: pieces are laid behind one another.
+#[derive(Clone)]
 pub struct Tape {
     rate: f64,
     samples: Vec<f64>,
@@ -62,6 +63,15 @@ impl Tape {
 
     pub fn seconds(&self) -> f64 {
         self.samples.len() as f64 / self.rate
+    }
+
+    pub fn len(&self) -> usize {
+        self.samples.len()
+    }
+
+    /// Forgets all but the first so many samples.
+    pub fn truncate(&mut self, len: usize) {
+        self.samples.truncate(len);
     }
 
     fn count(&self, seconds: f64) -> usize {

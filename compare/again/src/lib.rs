@@ -12,6 +12,10 @@ include!(concat!(env!("OUT_DIR"), "/lib.rs"));
 extern crate self as original;
 
 // What stands before the original, as the build script copied it.
+mod hearing {
+    include!(concat!(env!("OUT_DIR"), "/hearing.rs"));
+}
+#[allow(dead_code)]
 mod judge {
     include!(concat!(env!("OUT_DIR"), "/judge.rs"));
 }

@@ -14,7 +14,7 @@ use Rattle.hexadecimal.specs.Hex.{hex, allHex, unhex, total}
 use Rattle.tide.specs.Frame.{stationOf, stampOf, ageOf, levelOf, signed, waterOf}
 use Rattle.happenings.specs.Happening.{typed}
 use Rattle.tide.specs.Judge.{Shown, shows, readingOf, later, settle, damageOf, ofFields, judgedOf, ofLine, judge}
-use Rattle.tide.specs.Decoder.{Decoder, freshDecoder, place, bump, verdict, ended, longer, grown, moveOf, moved, took, tookAll, verdictsIn, lastOf}
+use Rattle.tide.specs.Decoder.{Decoder, freshDecoder, place, bump, verdict, ended, longer, grown, byteMove, moveOf, moved, took, tookAll, verdictsIn, lastOf}
 
 pub data Example : Type 0 where
   -- a byte, and its ten bits
@@ -66,5 +66,5 @@ starred =
 
 -- the definitions give back the whole table
 pub starred-hold : given (freshDecoder 7) starred ≡ starred
-unfolding given starred idleBit dataBit stopBit badStop pushBit heard after text freshDecoder hex allHex unhex total first stationOf stampOf ageOf levelOf signed damageOf ofFields judgedOf ofLine later settle waterOf readingOf judge place bump verdict ended longer grown moveOf moved took tookAll typed verdictsIn lastOf
+unfolding given starred idleBit dataBit stopBit badStop pushBit heard after text freshDecoder hex allHex unhex total first stationOf stampOf ageOf levelOf signed damageOf ofFields judgedOf ofLine later settle waterOf readingOf judge place bump verdict ended longer grown byteMove moveOf moved took tookAll typed verdictsIn lastOf
 starred-hold = refl

@@ -4,8 +4,8 @@ use mathlib.Core.Bool.{false}
 use mathlib.Core.Path.{_≡_, refl, sym, ap, subst, _∙_}
 use mathlib.Core.List.{List, [], _∷_, _++_}
 use native.Mathlib.Omega.{arith}
-use Rattle.happenings.specs.Happening.{bytesIn}
 use Rattle.happenings.specs.declared.happening.Happening.{Happening}
+use Rattle.happenings.specs.declared.happening.Happening.the-variants.{Lost}
 use mathlib.Core.Logic.{_↔_}
 use lib.ListN.{length, getD, drop}
 use lib.Ieee.{Float}
@@ -16,8 +16,8 @@ use Rattle.tide.specs.Judge.{Reading, Shown, none, shows, Verdict, judge, Passe
 use Rattle.tide.specs.Decoder.{Line, Decoder, freshDecoder, place, tookAll, linesIn, verdictsIn, answersOn, times, Below, AtMost, Best, SinceFresh}
 use Rattle.tide.proofs.JudgeLaws as judging
 use Rattle.tide.proofs.DecoderLaws as decoders
-use Rattle.tide.proofs.LinesLaws.{lines-of-bytes}
-use Rattle.tide.specs.Lines.{linesOf}
+use Rattle.tide.proofs.LinesLaws as heard
+use Rattle.tide.specs.Lines.{linesOf, Unbroken, behind0A}
 use Rattle.board.specs.Plain.{Plain, decoder, fresh, afterAll, linesAll, verdictsAll, answersAll, heardAll, badStopsGiven}
 use Rattle.refusal.specs.Refusals.{rateRefused}
 use Rattle.resampling.specs.Resample as resample
@@ -25,7 +25,7 @@ use Rattle.modem.specs.Listener.{freshDemod}
 use Rattle.modem.specs.Rx.{CountsAll}
 use Rattle.board.proofs.ReceiverLaws.{all-given, fresh-errors}
 use Rattle.board.proofs.PlainLaws.{all-decoder, all-lines, all-verdicts, all-ended}
-use Rattle.board.specs.Term.{stands, given, lineOf, onFields, JudgedAs, RunsOn, Term3}
+use Rattle.board.specs.Term.{stands, given, lineOf, onFields, JudgedAs, Term3}
 
 -- the first of some numbers and the others
 total-split : (cs : List ℕ) → total cs ≡ getD cs 0 0 + total (drop 1 cs)
@@ -104,14 +104,15 @@ module _ (b : Plain) (is : decoder b ≡ freshDecoder (b .station)) (ws : List (
       → Past17 (getD (verdictsAll b ws) (length ls) 0) ↔ Readable (l .chars) (l .more)
   covered-at ls rs l e = rw (each-at ls rs l e .answer) (judging.readable-answer station (stands station ls) (l .chars) (l .more))
 
-  lines-split : linesAll b ws ≡ linesOf (bytesIn all)
+  lines-heard : linesAll b ws ≡ linesOf all
   unfolding freshDecoder
-  lines-split = lines-are ∙ lines-of-bytes all (freshDecoder station) refl
+  lines-heard = lines-are ∙ heard.lines-of-heard all (freshDecoder station) refl refl
 
-  runs-on : RunsOn b ws (afterAll b ws)
-  runs-on =
-      let k = decoders.runs-on (decoder b) all in
-      record { board = all-decoder b ws ∙ k .0; lines = all-lines b ws ∙ k .1; verdicts = all-verdicts b ws ∙ k .2 }
+  unbroken-at : (ls rs : List Line) (l : Line) → linesAll b ws ≡ ls ++ l ∷ rs → Unbroken all ls l
+  unbroken-at ls rs l e = heard.unbroken all ls rs l (sym lines-heard ∙ e)
+
+  voided-at : (before behind : List Happening) → all ≡ before ++ Lost ∷ behind → linesAll b ws ≡ linesOf before ++ linesOf (behind0A behind)
+  voided-at before behind e = lines-heard ∙ ap linesOf e ∙ heard.voided before behind
 
   counted-17 : (ls : List Line) (f : List ℕ) → Intact f → 1 < readerOf f
       → times 17 (given station (ls ++ lineOf (hexLine f) ∷ [])) ≡ times 17 (given station ls) + 1
@@ -124,8 +125,9 @@ module _ (b : Plain) (is : decoder b ≡ freshDecoder (b .station)) (ws : List (
       record {
         board = refl;
         answers = refl;
-        lines = lines-split;
-        runsOn = runs-on;
+        lines = lines-heard;
+        unbroken = unbroken-at;
+        voided = voided-at;
         reading = rw (lines-are, reading-is) (claims .reading);
         empty = rw (lines-are, reading-is) (claims .empty);
         greatest = λ x e. rw (lines-are) (best-most _ _ x (sym reading-is ∙ e) (claims .reading));

@@ -17,23 +17,33 @@ use Rattle.tide.specs.Judge.{Shown}
 use Rattle.tide.specs.Decoder.{Line, Decoder, freshDecoder, tookAll, linesIn, verdictsIn, lastOf}
 
 -- "State: station, receiver, samples accepted (for 31), the unended line (its first 64 characters and whether there were more),
--- reading (W and level) or none, one count for each line answer"
+-- reading (W and level) or none, one count for each line answer"; and "The plain board gains one yes or no, skipping"
 pub record Plain : Type 0 where
   pub station : ℕ
   pub receiver : Demod
   pub accepted : ℕ
   pub line : Line
+  pub skipping : Bool
   pub reading : Shown
   pub counts : List ℕ
 
--- what collects and judges the lines: station, line, reading and counts
+-- what collects and judges the lines: all but the receiver and the samples accepted
 abbrev pub decoder : Plain → Decoder
-decoder b = record { station = b .station; line = b .line; reading = b .reading; counts = b .counts }
+decoder b = record { station = b .station; line = b .line; skipping = b .skipping; reading = b .reading; counts = b .counts }
 
 abbrev pub plain : Demod → ℕ → Decoder → Plain
-plain d n k = record { station = k .station; receiver = d; accepted = n; line = k .line; reading = k .reading; counts = k .counts }
+plain d n k =
+    record {
+      station = k .station;
+      receiver = d;
+      accepted = n;
+      line = k .line;
+      skipping = k .skipping;
+      reading = k .reading;
+      counts = k .counts;
+    }
 
--- "A fresh one takes rate, station and role, and has an empty line, no reading and all counts 0"
+-- "A fresh one takes rate, station and role, and has an empty line, no reading and all counts 0"; it does not skip
 unfoldable pub fresh : ℕ → ℕ → Role → Plain
 fresh rate station role = plain (freshDemod ForBoard rate role) 0 (freshDecoder station)
 
@@ -70,7 +80,8 @@ heardOf b s = heardBy (b .receiver) s
 unfoldable pub heardIn : Plain → List Float → List Happening
 heardIn b s = if accepts b s then heardOf b s .happenings else []
 
--- an accepted write "runs the steps above, deframes the sliced bits and adds each byte to the line"
+-- an accepted write "runs the steps above, deframes the sliced bits and adds each byte to the line"; at a loss of the carrier, in its place
+-- among them, it "drops .. the unended line, and skips all bytes up to and including the next 0A"
 unfoldable pub took : Plain → List Float → Plain
 took b s = plain (heardOf b s .after) (b .accepted + length s) (tookAll (decoder b) (heardOf b s .happenings))
 

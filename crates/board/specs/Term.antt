@@ -10,12 +10,13 @@ use lib.Ieee.{Float}
 use Rattle.refusal.specs.Refusals.{rateRefused}
 use Rattle.modem.specs.Rx.{CountsAll}
 use Rattle.hexadecimal.specs.Hex.{hexLine, unhex, total}
-use Rattle.happenings.specs.Happening.{bytesIn, badStopsIn, typed}
+use Rattle.happenings.specs.Happening.{badStopsIn}
 use Rattle.happenings.specs.declared.happening.Happening.{Happening}
+use Rattle.happenings.specs.declared.happening.Happening.the-variants.{Lost}
 use Rattle.tide.specs.Frame.{readerOf, Intact, Writer, Rules, bitsOf, lineBy}
 use Rattle.tide.specs.Judge.{Reading, Shown, none, shows, Verdict, judge, settle, ofFields, Passes, Readable, Past17}
-use Rattle.tide.specs.Decoder.{Line, Decoder, IsAnswer, countOf, verdict, tookAll, linesIn, verdictsIn, shownOn, answersOn, times, goods, AtMost, Best}
-use Rattle.tide.specs.Lines.{linesOf}
+use Rattle.tide.specs.Decoder.{Line, Decoder, IsAnswer, countOf, verdict, shownOn, answersOn, times, goods, AtMost, Best}
+use Rattle.tide.specs.Lines.{linesOf, Unbroken, behind0A}
 use Rattle.board.specs.Plain.{Plain, decoder, Answer, afterAll, heardAll, linesAll, verdictsAll, answersAll, endedIn, badStopsGiven}
 
 -- ---- the lines judged, in order
@@ -49,31 +50,23 @@ pub record Alike (v w : Writer) : Type 0 where
   pub age : v .age ≡ w .age
   pub level : v .level ≡ w .level
 
--- ---- what was heard, in order
--- all bytes heard in the accepted writes, one after the other, however the writes cut them
-abbrev pub bytesAll : Plain → List (List Float) → List ℕ
-bytesAll fresh ws = bytesIn (heardAll fresh ws)
-
--- all that happened in them, with every loss of the carrier and every change of the report left out
-abbrev pub bytesAlone : Plain → List (List Float) → List Happening
-bytesAlone fresh ws = typed (bytesAll fresh ws)
-
--- "a line runs on over a lost carrier": that alone gives the same line, reading and counts, the same lines judged and the same answers
-pub record RunsOn (fresh : Plain) (ws : List (List Float)) (b : Plain) : Type 0 where
-  pub board : decoder b ≡ tookAll (decoder fresh) (bytesAlone fresh ws)
-  pub lines : linesAll fresh ws ≡ linesIn (decoder fresh) (bytesAlone fresh ws)
-  pub verdicts : verdictsAll fresh ws ≡ verdictsIn (decoder fresh) (bytesAlone fresh ws)
-
 -- ---- the term: of a fresh plain board, the writes, the board after them, and the answers given
 pub record Term3 (fresh : Plain) (ws : List (List Float)) (b : Plain) (said : List Answer) : Type 0 where
   -- the board after the writes is the plain board's, which "is fed the calls' arguments alone"
   pub board : b ≡ afterAll fresh ws
   -- every answer is the plain board's
   pub answers : said ≡ answersAll fresh ws
-  -- the lines judged are those of all bytes heard: what stands before each 0A, "its first 64 characters and whether there were more"
-  pub lines : linesAll fresh ws ≡ linesOf (bytesAll fresh ws)
-  -- "a line runs on over a lost carrier"
-  pub runsOn : RunsOn fresh ws b
+  -- the lines judged are those of all that was heard in the accepted writes, however these cut it: what stands between one 0A and the next is
+  -- a line, "its first 64 characters and whether there were more", unless the carrier was lost in it
+  pub lines : linesAll fresh ws ≡ linesOf (heardAll fresh ws)
+  -- "A lost carrier voids the line": no judged line has characters heard on both sides of a loss. Each is all that was heard from the start, or
+  -- from behind a 0A, to the next 0A, with no loss between
+  pub unbroken : (ls rs : List Line) (l : Line) → linesAll fresh ws ≡ ls ++ l ∷ rs → Unbroken (heardAll fresh ws) ls l
+  -- "skips all bytes up to and including the next 0A": wherever the carrier was lost, the lines judged are those of what was heard before, and
+  -- then those of what was heard behind the next 0A
+  pub voided :
+      (before behind : List Happening) → heardAll fresh ws ≡ before ++ Lost ∷ behind
+      → linesAll fresh ws ≡ linesOf before ++ linesOf (behind0A behind)
   -- the reading is the good line with the greatest water minute, the earliest among equals: "greater than that of every good line judged
   -- before it", and at least that of every one behind it
   pub reading : Best (goods (fresh .station) (linesAll fresh ws)) (b .reading)

@@ -22,18 +22,18 @@ use Rattle.tide.specs.declared.decoder.Step.{Step}
 use Rattle.console.specs.Text.{Taken, Read, ReadSome, Judges}
 use Rattle.console.specs.declared.text.Text.{Text}
 
-pub taken-end : (t : Text) (c k : ℕ) (s : Step) → Stepped (t .decoder) (plain.moveOf (Byte c)) s → s .ended ≡ true → k ≡ min (t .lines + 1) mostCount
+pub taken-end : (t : Text) (c k : ℕ) (s : Step) → Stepped (t .decoder) (plain.moveAt (decoderOf (t .decoder)) (Byte c)) s → s .ended ≡ true → k ≡ min (t .lines + 1) mostCount
     → (told : Bool) → Taken t c (record { decoder = s .decoder; lines = k; told = told })
 unfolding plain.took
 taken-end t c k s h e n told =
-    let b : isEnd (plain.moveOf (Byte c)) ≡ true = sym (h .ended) ∙ e in
+    let b : isEnd (plain.moveAt (decoderOf (t .decoder)) (Byte c)) ≡ true = sym (h .ended) ∙ e in
     record { decoder = h .same; lines = rw b n; sound = h .sound }
 
-pub taken-on : (t : Text) (c : ℕ) (s : Step) → Stepped (t .decoder) (plain.moveOf (Byte c)) s → s .ended ≡ false
+pub taken-on : (t : Text) (c : ℕ) (s : Step) → Stepped (t .decoder) (plain.moveAt (decoderOf (t .decoder)) (Byte c)) s → s .ended ≡ false
     → Taken t c (record { decoder = s .decoder; lines = t .lines; told = t .told })
 unfolding plain.took
 taken-on t c s h e =
-    let b : isEnd (plain.moveOf (Byte c)) ≡ false = sym (h .ended) ∙ e in
+    let b : isEnd (plain.moveAt (decoderOf (t .decoder)) (Byte c)) ≡ false = sym (h .ended) ∙ e in
     record { decoder = h .same; lines = rw b refl; sound = h .sound }
 
 -- part of the way through the block
@@ -64,6 +64,8 @@ lines-by plain.ends n d r =
     let e : n + 1 + length r ≡ n + length (d .line ∷ r) = omega arith in
     min-add (n + 1) (length r) mostCount ∙ ap (λ (k : ℕ). min k mostCount) e
 lines-by (plain.grows c) n d r = refl
+lines-by plain.loses n d r = refl
+lines-by plain.resumes n d r = refl
 lines-by plain.stays n d r = refl
 
 pub going-on : (t : Text) (bs : List ℕ) (i : ℕ) (r s : Text) → Going t bs i r → i < length bs → Taken r (getD bs i 0) s → Going t bs (i + 1) s
@@ -77,7 +79,7 @@ going-on t bs i r s g h b =
       decoder = rw (b .decoder) (holding-heard rest next ∙ (rw e at (g .decoder)));
       lines =
           rw (b .decoder, holding-lines rest next, b .lines)
-          (lines-by (plain.moveOf (Byte c)) (r .lines) (decoderOf (r .decoder)) (plain.linesIn next rest) ∙ (rw e at (g .lines)));
+          (lines-by (plain.moveAt (decoderOf (r .decoder)) (Byte c)) (r .lines) (decoderOf (r .decoder)) (plain.linesIn next rest) ∙ (rw e at (g .lines)));
       sound = b .sound;
     }
 

@@ -6,14 +6,14 @@ use lib.ListN.{length}
 use Rattle.numeric.specs.If.{if_then_else_}
 use Rattle.happenings.specs.Happening.{typed}
 use Rattle.happenings.specs.declared.happening.Happening.the-variants.{Byte}
-use Rattle.tide.specs.Decoder.{freshDecoder, moveOf, took, tookAll, linesIn}
+use Rattle.tide.specs.Decoder.{freshDecoder, moveAt, took, tookAll, linesIn}
 use Rattle.tide.specs.DecoderRep.{decoderOf, mostCount, holding, Sound, isEnd}
 use Rattle.console.specs.declared.text.Text.{Text}
 
 -- one byte
 pub record Taken (t : Text) (c : ℕ) (r : Text) : Type 0 where
   pub decoder : decoderOf (r .decoder) ≡ holding (took (decoderOf (t .decoder)) (Byte c))
-  pub lines : r .lines ≡ (if isEnd (moveOf (Byte c)) then min (t .lines + 1) mostCount else t .lines)
+  pub lines : r .lines ≡ (if isEnd (moveAt (decoderOf (t .decoder)) (Byte c)) then min (t .lines + 1) mostCount else t .lines)
   pub sound : Sound (r .decoder)
 
 -- bytes, in order: the lines are those that they end

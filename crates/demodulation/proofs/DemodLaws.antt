@@ -2,7 +2,7 @@
 -- state. Assumes nothing.
 use Prim.Native.Nat.{ℕ, _+_, _*_, _^_, _<_, _≤_}
 use mathlib.Core.Path.{_≡_, refl, sym, ap, _∙_}
-use mathlib.Core.Bool.{Bool, true, false}
+use mathlib.Core.Bool.{Bool, true, false, true≢false}
 use mathlib.Core.List.{List, [], _∷_, _++_, append-assoc, append-nil}
 use native.Mathlib.Numerals.{add-one}
 use native.Mathlib.Omega.{arith}
@@ -14,11 +14,11 @@ use lib.ListN.{length, length-append, getD, drop, drop-of-length-le}
 use lib.Seq.{drop-cons}
 use Rattle.numeric.specs.If.{if_then_else_}
 use Rattle.numeric.proofs.Tested.{at-number}
-use Rattle.framing.specs.Frame.{withBit, mostErrors, idleBit, dataBit, stopBit, badStop, bytesOf, badStopsOf, Deframed, pushBit, heard, badStops, after}
+use Rattle.framing.specs.Frame.{withBit, mostErrors, ended, idleBit, dataBit, stopBit, badStop, bytesOf, badStopsOf, Deframed, pushBit, heard, badStops, after}
 use Rattle.framing.proofs.FrameLaws.{push-idle, push-data, push-stop}
 use Rattle.framing.specs.Framing.{AreBytes, held}
 use Rattle.framing.proofs.FramingLaws.{heard-append, after-append, bads-append, held-most, bit-few, bit-errors, bit-errors-most}
-use Rattle.demodulation.specs.Demod.{Demodulator, Step, eventOf, fed, finished, decoded, stepOf, freshDemodulator, fallOf, changeOf, wordOf, happensAt, happens, before, hearing, reported, Tuned}
+use Rattle.demodulation.specs.Demod.{Demodulator, Step, eventOf, droppedAt, keptBy, fed, finished, decoded, stepOf, freshDemodulator, fallOf, changeOf, wordOf, happensAt, happens, before, hearing, reported, Tuned}
 use Rattle.demodulation.specs.Carrier.{updated, dominanceStep}
 use Rattle.demodulation.specs.Correlation.{places, multiplied, advanced, correlated}
 use Rattle.demodulation.specs.Timing.{sliced, slicedBits, ticked}
@@ -32,6 +32,7 @@ use Rattle.happenings.specs.Happening.{bytesIn, changesIn, badStopsIn}
 use Rattle.happenings.proofs.HappeningLaws as happening
 use Rattle.happenings.specs.declared.happening.Happening.{Happening}
 use Rattle.demodulation.specs.declared.kind.Kind.{Kind}
+use Rattle.demodulation.specs.declared.kind.Kind.the-variants.{Bare, ForBoard}
 use Rattle.demodulation.specs.declared.carrier.CarrierDetector.{CarrierDetector}
 use Rattle.demodulation.specs.declared.demod.Latch.{Latch}
 use Rattle.demodulation.specs.declared.correlator.Decision.{Decision}
@@ -39,6 +40,20 @@ use Rattle.demodulation.specs.declared.correlator.Correlator.{Correlator
 use Rattle.demodulation.specs.declared.demod.Event.{Event}
 use Rattle.demodulation.specs.declared.demod.Event.the-variants.{Nothing, CarrierUp, CarrierDown}
 use Rattle.demodulation.specs.Demod.{bitsAt, bitsIn, Sliced, lastOf, joined}
+
+-- ---- the half byte
+-- what holds with no bit, behind every bit, and of an idle deframer, holds of what is sliced and then kept or dropped
+kept-either : (d : Deframer) (soft : Float) (P : Deframer → Heard → Type 0) → P d Waiting → ((bit : Bool) → P (pushBit d bit .state) (pushBit d bit .heard))
+    → P (ended d (d .errors)) Waiting → (kind : Kind) (was up boundary : Bool)
+    → P (keptBy kind was up (sliced d boundary up soft .state)) (sliced d boundary up soft .heard)
+kept-either d soft P w g l Bare was up boundary = slice-either d soft (λ (x : Deframed). P (x .state) (x .heard)) w g boundary up
+kept-either d soft P w g l ForBoard was true boundary = up-either was
+  where
+    up-either : (was : Bool) → P (droppedAt was true (sliced d boundary true soft .state)) (sliced d boundary true soft .heard)
+    up-either true = slice-either d soft (λ (x : Deframed). P (x .state) (x .heard)) w g boundary true
+    up-either false = slice-either d soft (λ (x : Deframed). P (x .state) (x .heard)) w g boundary true
+kept-either d soft P w g l ForBoard true false boundary = rw (keeps-half-byte d soft boundary) l
+kept-either d soft P w g l ForBoard false false boundary = rw (keeps-half-byte d soft boundary) w
 
 -- ---- one step
 module _ (d : Demodulator) (s : Float) where
@@ -75,28 +90,13 @@ module _ (d : Demodulator) (s : Float) where
   unfolding fed finished
   dominance-after = by-cases (λ x. x .state .dominance ≡ dominanceStep (d .dominance) s .state) refl refl
 
-  -- "At most one boundary a sample", so at most one bit
-  pub step-bits : Sliced (d .deframer) (bitsAt d s) (stepOf d s .state .deframer) (bytesOf (stepOf d s .heard)) (badStopsOf (stepOf d s .heard)) 1
-  unfolding stepOf bitsAt fed finished heard badStops after
-  step-bits = go (fed d s .corr .filled)
-    where
-      o : Decision
-      o = correlated (fed d s .rings)
-
-      go : (f : Bool) → Sliced (d .deframer)
-          (if f then slicedBits (ticked (d .timing) (o .soft) .boundary) (updated (d .carrier) (o .energy) .detected) (o .soft) else [])
-          ((if f then decoded (fed d s) else record { state = fed d s; heard = Waiting; event = Nothing }) .state .deframer)
-          (bytesOf ((if f then decoded (fed d s) else record { state = fed d s; heard = Waiting; event = Nothing }) .heard))
-          (badStopsOf ((if f then decoded (fed d s) else record { state = fed d s; heard = Waiting; event = Nothing }) .heard)) 1
-      go true = slice-bits (d .deframer) (o .soft) _ _
-      go false = record { few = omega arith; left = refl; yields = refl; bad-stops = refl }
-
-  -- what holds of the deframer with no bit, and behind every bit, holds of a step's
+  -- what holds of the deframer with no bit, behind every bit, and of an idle one behind a loss, holds of a step's
   pub step-either : (P : Deframer → Heard → Type 0) → P (d .deframer) Waiting → ((bit : Bool) → P (pushBit (d .deframer) bit .state) (pushBit (d .deframer) bit .heard))
-      → P (stepOf d s .state .deframer) (stepOf d s .heard)
+      → P (ended (d .deframer) (d .deframer .errors)) Waiting → P (stepOf d s .state .deframer) (stepOf d s .heard)
   unfolding fed finished
-  step-either P w g =
-      by-cases (λ x. P (x .state .deframer) (x .heard)) w (slice-either (d .deframer) _ (λ (x : Deframed). P (x .state) (x .heard)) w g _ _)
+  step-either P w g l =
+      by-cases (λ x. P (x .state .deframer) (x .heard)) w
+      (kept-either (d .deframer) _ P w g l (d .kind) (d .carrier .detected) _ _)
 
 -- ---- what happens at a step, by its parts
 module _ (was up : Bool) (event : Event) (heard : Heard) where
@@ -225,27 +225,11 @@ module _ (d : Demodulator) (s : Float) (ss : List Float) where
       happening.bads-append (happens d (stepOf d s)) (hearing (stepOf d s .state) ss .happenings)
       ∙ ap (λ (n : ℕ). n + badStopsIn (hearing (stepOf d s .state) ss .happenings)) (bads-at (d .carrier .detected) (stepOf d s .state .carrier .detected) (stepOf d s .event) (stepOf d s .heard))
 
--- the deframer gets the bits of the samples, at most one of each, and its bytes and bad stops are those heard
-pub hearing-bits : (d : Demodulator) (ss : List Float)
-    → Sliced (d .deframer) (bitsIn d ss) (hearing d ss .after .deframer) (bytesIn (hearing d ss .happenings)) (badStopsIn (hearing d ss .happenings)) (length ss)
-unfolding bitsIn
-hearing-bits d [] = unfold hearing bytesIn badStopsIn heard badStops after in record { few = omega arith; left = refl; yields = refl; bad-stops = refl }
-hearing-bits d (s ∷ ss) =
-    let x = step-bits d s in
-    let y = hearing-bits (stepOf d s .state) ss in
-    rw (after-on d s ss, bytes-on d s ss, bads-on d s ss)
-    record {
-      few = rw (length-append (bitsAt d s) (bitsIn (stepOf d s .state) ss)) (omega arith);
-      left = after-append (d .deframer) (bitsAt d s) (bitsIn (stepOf d s .state) ss) ∙ rw (x .left) (y .left);
-      yields = heard-append (d .deframer) (bitsAt d s) (bitsIn (stepOf d s .state) ss) ∙ rw (x .left, x .yields, y .yields);
-      bad-stops = bads-append (d .deframer) (bitsAt d s) (bitsIn (stepOf d s .state) ss) ∙ rw (x .left, x .bad-stops, y .bad-stops);
-    }
-
 -- ---- how many there can be
 step-few : (d : Demodulator) (s : Float)
     → 10 * (length (bytesOf (stepOf d s .heard)) + badStopsOf (stepOf d s .heard)) + held (stepOf d s .state .deframer) ≤ held (d .deframer) + 1
 step-few d s =
-    step-either d s (λ e h. 10 * (length (bytesOf h) + badStopsOf h) + held e ≤ held (d .deframer) + 1) (omega arith) (bit-few (d .deframer))
+    step-either d s (λ e h. 10 * (length (bytesOf h) + badStopsOf h) + held e ≤ held (d .deframer) + 1) (omega arith) (bit-few (d .deframer)) (omega arith)
 
 -- ten bits make a byte or a bad stop: ten for each are at most the bits held before and the samples
 pub hearing-completed : (d : Demodulator) (ss : List Float)
@@ -269,7 +253,7 @@ step-errors : (d : Demodulator) (s : Float) → d .deframer .errors + badStopsOf
     → stepOf d s .state .deframer .errors ≡ d .deframer .errors + badStopsOf (stepOf d s .heard)
 step-errors d s =
     step-either d s (λ e h. d .deframer .errors + badStopsOf h ≤ mostErrors → e .errors ≡ d .deframer .errors + badStopsOf h)
-    (λ _. omega arith) (bit-errors (d .deframer))
+    (λ _. omega arith) (bit-errors (d .deframer)) (λ _. omega arith)
 
 -- the error count, where it has not held, has grown by the number of bad stops
 pub hearing-errors : (d : Demodulator) (ss : List Float) → d .deframer .errors + badStopsIn (hearing d ss .happenings) ≤ mostErrors
@@ -282,7 +266,7 @@ hearing-errors d (s ∷ ss) h =
     rw (after-on d s ss) (r ∙ omega (arith, b, e))
 
 step-errors-most : (d : Demodulator) (s : Float) → stepOf d s .state .deframer .errors ≤ d .deframer .errors + badStopsOf (stepOf d s .heard)
-step-errors-most d s = step-either d s (λ e h. e .errors ≤ d .deframer .errors + badStopsOf h) (omega arith) (bit-errors-most (d .deframer))
+step-errors-most d s = step-either d s (λ e h. e .errors ≤ d .deframer .errors + badStopsOf h) (omega arith) (bit-errors-most (d .deframer)) (omega arith)
 
 -- it never grows by more
 pub hearing-errors-most : (d : Demodulator) (ss : List Float)
@@ -312,6 +296,59 @@ pub hearing-kind : (d : Demodulator) (ss : List Float) → hearing d ss .after .
 unfolding hearing
 hearing-kind d [] = refl
 hearing-kind d (s ∷ ss) = hearing-kind (stepOf d s .state) ss ∙ step-kind d s
+
+-- ---- the bare receiver: "deframes the sliced bits", straight through
+-- "At most one boundary a sample", so at most one bit
+pub step-bits : (d : Demodulator) (s : Float) → d .kind ≡ Bare
+    → Sliced (d .deframer) (bitsAt d s) (stepOf d s .state .deframer) (bytesOf (stepOf d s .heard)) (badStopsOf (stepOf d s .heard)) 1
+unfolding stepOf bitsAt fed finished
+step-bits d s bare = go (fed d s .corr .filled)
+  where
+    o : Decision
+    o = correlated (fed d s .rings)
+
+    kept : (k : Kind) (was up boundary : Bool) → k ≡ Bare
+        → Sliced (d .deframer) (slicedBits boundary up (o .soft)) (keptBy k was up (sliced (d .deframer) boundary up (o .soft) .state))
+        (bytesOf (sliced (d .deframer) boundary up (o .soft) .heard)) (badStopsOf (sliced (d .deframer) boundary up (o .soft) .heard)) 1
+    kept k was up boundary e = rw e (slice-bits (d .deframer) (o .soft) boundary up)
+
+    go : (f : Bool) → Sliced (d .deframer)
+        (if f then slicedBits (ticked (d .timing) (o .soft) .boundary) (updated (d .carrier) (o .energy) .detected) (o .soft) else [])
+        ((if f then decoded (fed d s) else record { state = fed d s; heard = Waiting; event = Nothing }) .state .deframer)
+        (bytesOf ((if f then decoded (fed d s) else record { state = fed d s; heard = Waiting; event = Nothing }) .heard))
+        (badStopsOf ((if f then decoded (fed d s) else record { state = fed d s; heard = Waiting; event = Nothing }) .heard)) 1
+    go true = kept (d .kind) (d .carrier .detected) _ _ bare
+    go false = unfold heard badStops after in record { few = omega arith; left = refl; yields = refl; bad-stops = refl }
+
+-- the deframer gets the bits of the samples, at most one of each, and its bytes and bad stops are those heard
+pub hearing-bits : (d : Demodulator) (ss : List Float) → d .kind ≡ Bare
+    → Sliced (d .deframer) (bitsIn d ss) (hearing d ss .after .deframer) (bytesIn (hearing d ss .happenings)) (badStopsIn (hearing d ss .happenings)) (length ss)
+unfolding bitsIn
+hearing-bits d [] bare = unfold hearing bytesIn badStopsIn heard badStops after in record { few = omega arith; left = refl; yields = refl; bad-stops = refl }
+hearing-bits d (s ∷ ss) bare =
+    let x = step-bits d s bare in
+    let y = hearing-bits (stepOf d s .state) ss (step-kind d s ∙ bare) in
+    rw (after-on d s ss, bytes-on d s ss, bads-on d s ss)
+    record {
+      few = rw (length-append (bitsAt d s) (bitsIn (stepOf d s .state) ss)) (omega arith);
+      left = after-append (d .deframer) (bitsAt d s) (bitsIn (stepOf d s .state) ss) ∙ rw (x .left) (y .left);
+      yields = heard-append (d .deframer) (bitsAt d s) (bitsIn (stepOf d s .state) ss) ∙ rw (x .left, x .yields, y .yields);
+      bad-stops = bads-append (d .deframer) (bitsAt d s) (bitsIn (stepOf d s .state) ss) ∙ rw (x .left, x .bad-stops, y .bad-stops);
+    }
+
+-- ---- the board's
+-- "At the step where the detector goes down, the board's receiver drops the half byte (deframer idle, error count kept)", and hears nothing else
+pub lost-drops : (d : Demodulator) (s : Float) → d .kind ≡ ForBoard → d .carrier .detected ≡ true → stepOf d s .state .carrier .detected ≡ false
+    → (stepOf d s .state .deframer ≡ ended (d .deframer) (d .deframer .errors)) × (stepOf d s .heard ≡ Waiting)
+unfolding fed finished
+lost-drops d s k was =
+    by-cases d s
+    (λ x. x .state .carrier .detected ≡ false → (x .state .deframer ≡ ended (d .deframer) (d .deframer .errors)) × (x .heard ≡ Waiting))
+    (λ e. absurd (true≢false (sym was ∙ e))) (drops (d .kind) (d .carrier .detected) _ _ _ k was)
+  where
+    drops : (k : Kind) (was up boundary : Bool) (soft : Float) → k ≡ ForBoard → was ≡ true → up ≡ false
+        → (keptBy k was up (sliced (d .deframer) boundary up soft .state) ≡ ended (d .deframer) (d .deframer .errors)) × (sliced (d .deframer) boundary up soft .heard ≡ Waiting)
+    drops k was up boundary soft e f g = rw (e, f, g, keeps-half-byte (d .deframer) soft boundary) (refl, refl)
 
 -- ---- what a bit leaves true
 -- a deframer's byte so far stays a byte, as each byte that it gives is
@@ -369,7 +406,7 @@ unfolding freshDemodulator
 fresh-tuned kind role = record { place = omega arith; byte = omega arith }
 
 step-kept : (d : Demodulator) (s : Float) → Tuned d → Kept (stepOf d s .state .deframer) (stepOf d s .heard)
-step-kept d s h = step-either d s Kept (record { acc = h .byte; bytes = tt }) (λ bit. push-kept (d .deframer) bit (h .byte))
+step-kept d s h = step-either d s Kept (record { acc = h .byte; bytes = tt }) (λ bit. push-kept (d .deframer) bit (h .byte)) (record { acc = h .byte; bytes = tt })
 
 pub step-tuned : (d : Demodulator) (s : Float) → Tuned d → Tuned (stepOf d s .state)
 step-tuned d s h =

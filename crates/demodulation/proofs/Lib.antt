@@ -4,5 +4,6 @@ pub mod SummingSteps
 pub mod CarrierLaws
 pub mod TimingLaws
 pub mod DemodLaws
+pub mod KindLaws
 pub mod FreshLaws
 mod Turns

@@ -1,13 +1,13 @@
 -- rx.rs at 8,000 Hz, operation by operation: what one sample makes of the state, and what is heard in a list of samples. Assumes nothing.
 use Prim.Native.Nat.{ℕ, _<_, _+_, _≤_}
-use mathlib.Core.Bool.{Bool, true, false, _&&_, _||_}
+use mathlib.Core.Bool.{Bool, true, false, not, _&&_, _||_}
 use mathlib.Core.List.{List, [], _∷_, _++_}
 use lib.Ieee.{Float}
 use Rattle.numeric.specs.F64.{whole}
 use Rattle.numeric.specs.If.{if_then_else_}
 use Rattle.refusal.specs.Refusals.{dspRate}
 use Rattle.bell103.specs.Roles.{otherRole, tonesOf}
-use Rattle.framing.specs.Frame.{freshDeframer, heard, badStops, after}
+use Rattle.framing.specs.Frame.{freshDeframer, ended, heard, badStops, after}
 use Rattle.demodulation.specs.Correlation.{places, ringsOf, multiplied, advanced, correlated, freshRing, freshCorrelator}
 use Rattle.demodulation.specs.Timing.{ticked, sliced, slicedBits, freshTiming}
 use Rattle.demodulation.specs.Carrier.{freshDetector, updated, BlockAnswer, goesOn, endsWith, freshDominance, dominanceStep}
@@ -19,6 +19,7 @@ use Rattle.framing.specs.declared.frame.Heard.the-variants.{Byte, Waiting, BadS
 use Rattle.happenings.specs.declared.happening.Happening.{Happening}
 use Rattle.happenings.specs.declared.happening.Happening.the-variants as happening
 use Rattle.demodulation.specs.declared.kind.Kind.{Kind}
+use Rattle.demodulation.specs.declared.kind.Kind.the-variants.{Bare, ForBoard}
 use Rattle.demodulation.specs.declared.carrier.ToneDominance.{ToneDominance}
 use Rattle.demodulation.specs.declared.correlator.Correlator.{Correlator}
 use Rattle.demodulation.specs.declared.timing.Timing.{Timing}
@@ -84,6 +85,15 @@ fed d s =
       deframer = d .deframer;
     }
 
+-- "At the step where the detector goes down, the board's receiver drops the half byte (deframer idle, error count kept)"
+abbrev pub droppedAt : Bool → Bool → Deframer → Deframer
+droppedAt was up d = if was && not up then ended d (d .errors) else d
+
+-- "The bare receiver keeps Rust's half byte"
+abbrev pub keptBy : Kind → Bool → Bool → Deframer → Deframer
+keptBy Bare was up d = d
+keptBy ForBoard was up d = droppedAt was up d
+
 -- "event; timing; slice", with the detector and the latch as this sample leaves them
 unfoldable pub finished : Demodulator → CarrierDetector → Latch → Float → Step
 finished d carrier latch soft =
@@ -100,7 +110,7 @@ finished d carrier latch soft =
             carrier = carrier;
             latch = latch;
             timing = t .state;
-            deframer = bit .state;
+            deframer = keptBy (d .kind) (d .carrier .detected) (carrier .detected) (bit .state);
           };
       heard = bit .heard;
       event = eventOf (d .latch .qualified) (latch .qualified);
@@ -234,3 +244,28 @@ lastOf was events = fold (λ (b c : Bool). c) was events
 -- two hearings, the second from where the first ended
 abbrev pub joined : Hearing → Hearing → Hearing
 joined x y = record { after = y .after; happenings = x .happenings ++ y .happenings }
+
+-- ---- bare, and for a board
+-- d, of another kind and with another deframer
+abbrev pub remade : Kind → Deframer → Demodulator → Demodulator
+remade kind deframer d =
+    record {
+      kind = kind;
+      rings = d .rings;
+      corr = d .corr;
+      dominance = d .dominance;
+      «gate_open» = d .«gate_open»;
+      carrier = d .carrier;
+      latch = d .latch;
+      timing = d .timing;
+      deframer = deframer;
+    }
+
+-- d, made for a board
+abbrev pub forBoard : Demodulator → Demodulator
+forBoard d = remade ForBoard (d .deframer) d
+
+-- the carrier is lost at none of these samples
+unfoldable pub NoneLost : Demodulator → List Float → Type 0
+NoneLost d [] = Unit
+NoneLost d (s ∷ ss) = (fallOf (d .carrier .detected) (stepOf d s .state .carrier .detected) ≡ []) × NoneLost (stepOf d s .state) ss

@@ -24,7 +24,7 @@ ghost use Prim.Native.Nat.{_<_};
 ghost use Rattle.demodulation.specs.Carrier.{yesOf};
 ghost use Rattle.demodulation.specs.Correlation.{ringsOf};
 ghost use Rattle.demodulation.specs.Summing.{Summed};
-ghost use Rattle.demodulation.specs.Demod.{gateAfter, latched, eventOf, stepOf, freshDemodulator, reported};
+ghost use Rattle.demodulation.specs.Demod.{gateAfter, latched, eventOf, droppedAt, keptBy, stepOf, freshDemodulator, reported};
 ghost use Rattle.demodulation.specs.DemodRep.{demodulator, demodulatorOf, stepWith, stepped, Feeds, Finishes, DemodSound};
 
 // What one step brought: a change of the carrier, or none.
@@ -123,6 +123,34 @@ pub struct Step {
 
 // Its parts are stored field by field: a part stored whole takes the gap behind its flag along, and the next sample's load of that gap would
 // wait for the store.
+// The deframer behind a step in which the detector goes from `was` to `up`: where it goes down, the half byte is dropped.
+fn dropped_at(was: bool, up: bool, d: Deframer) -> Deframer
+    ensures { λ r. ⌜ r ≡ droppedAt was up d ⌝ }
+{
+    if was {
+        if up {
+            return d;
+        }
+        return Deframer {
+            in_frame: false,
+            bit_count: d.bit_count,
+            acc: d.acc,
+            errors: d.errors,
+        };
+    }
+    d
+}
+
+// A board's is dropped so; the bare receiver keeps it, as the Rust does.
+fn kept_by(kind: Kind, was: bool, up: bool, d: Deframer) -> Deframer
+    ensures { λ r. ⌜ r ≡ keptBy kind was up d ⌝ }
+{
+    match kind {
+        Kind::Bare => d,
+        Kind::ForBoard => dropped_at(was, up, d),
+    }
+}
+
 impl Core {
     // Phases, ring place; dominance.
     fn feed(mut self, s: f64) -> Core
@@ -156,7 +184,10 @@ impl Core {
         let t = timing.tick(soft);
         let ticked = t.state;
         let pushed = slice(deframer, t.boundary, carrier.detected, soft);
-        let framed = pushed.state;
+        let kind = self.kind;
+        let was = self.carrier.detected;
+        let sliced = pushed.state;
+        let framed = kept_by(kind, was, carrier.detected, sliced);
         let heard = pushed.heard;
         self.carrier = carrier;
         self.latch = latch;

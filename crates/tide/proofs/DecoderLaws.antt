@@ -15,9 +15,9 @@ use Rattle.refusal.specs.Refusals.{first}
 use Rattle.hexadecimal.specs.Hex.{unhex, hexLine, total}
 use Rattle.tide.specs.Frame.{readerOf, Intact, Writer, Rules, lineBy}
 use Rattle.tide.specs.Judge.{Reading, readingOf, Shown, none, shows, Verdict, damageOf, ofFields, judgedOf, ofLine, later, settle, judge}
-use Rattle.tide.specs.Decoder.{Line, Decoder, freshDecoder, IsAnswer, place, bump, verdict, ended, grown, Move, ends, grows, stays, moveOf, moved, lineAt, verdictAt, took, tookAll, linesIn, verdictsIn, laidIn, shownOn, answersOn, Along, times, Tallied, goodOf, goods, Below, AtMost, Best, SinceFresh}
+use Rattle.tide.specs.Decoder.{Line, Decoder, freshDecoder, IsAnswer, place, bump, verdict, ended, grown, cleared, Move, ends, grows, loses, resumes, stays, byteMove, moveOf, moveAt, moved, lineAt, verdictAt, took, tookAll, linesIn, verdictsIn, laidIn, shownOn, answersOn, Along, times, Tallied, goodOf, goods, Below, AtMost, Best, SinceFresh}
 use Rattle.tide.specs.DecoderRep.{mostCount, held, holding}
-use Rattle.happenings.specs.Happening.{byteOf, bytesIn, typed}
+use Rattle.happenings.specs.Happening.{byteOf, bytesIn}
 use Rattle.happenings.specs.declared.happening.Happening.{Happening}
 use Rattle.happenings.specs.declared.happening.Happening.the-variants.{Byte, BadStop, Lost, Up, Down}
 use Rattle.tide.proofs.JudgeLaws.{judge-newer, fields-alike, some-writer}
@@ -38,36 +38,19 @@ unfolding tookAll verdictsIn
 verdictsIn-append d [] ys = refl
 verdictsIn-append d (x ∷ xs) ys = rw (verdictsIn-append (took d x) xs ys, append-assoc) refl
 
--- ---- "a line runs on over a lost carrier": with every loss and every change of the report left out, the decoder, the lines that are ended and
--- their answers are the same
-pub runs-on : (d : Decoder) (hs : List Happening)
-    → (tookAll d hs ≡ tookAll d (typed (bytesIn hs))) × (linesIn d hs ≡ linesIn d (typed (bytesIn hs))) × (verdictsIn d hs ≡ verdictsIn d (typed (bytesIn hs)))
-unfolding bytesIn typed tookAll linesIn verdictsIn took moveOf moved
-runs-on d [] = (refl, refl, refl)
-runs-on d (Byte c ∷ hs) =
-    let r = runs-on (took d (Byte c)) hs in
-    (r .0, ap (λ (ls : List Line). lineAt d (moveOf (Byte c)) ++ ls) (r .1), ap (λ (vs : List ℕ). verdictAt d (moveOf (Byte c)) ++ vs) (r .2))
-runs-on d (BadStop ∷ hs) = runs-on d hs
-runs-on d (Lost ∷ hs) = runs-on d hs
-runs-on d (Up ∷ hs) = runs-on d hs
-runs-on d (Down ∷ hs) = runs-on d hs
-
--- with no byte among what is heard nothing moves
-pub no-byte : (d : Decoder) (hs : List Happening) → bytesIn hs ≡ [] → (tookAll d hs ≡ d) × (linesIn d hs ≡ []) × (verdictsIn d hs ≡ [])
-unfolding typed tookAll linesIn verdictsIn
-no-byte d hs e = rw e at (runs-on d hs)
-
 -- ---- the station stays
 station-by : (m : Move) (d : Decoder) → moved d m .station ≡ d .station
-unfolding moved ended grown
+unfolding moved ended grown cleared
 station-by ends d = refl
 station-by (grows c) d = refl
+station-by loses d = refl
+station-by resumes d = refl
 station-by stays d = refl
 
 pub station-stays : (d : Decoder) (hs : List Happening) → tookAll d hs .station ≡ d .station
 unfolding tookAll took
 station-stays d [] = refl
-station-stays d (h ∷ hs) = station-stays (took d h) hs ∙ station-by (moveOf h) d
+station-stays d (h ∷ hs) = station-stays (took d h) hs ∙ station-by (moveAt d h) d
 
 -- ---- the reading is the best of the good lines
 below-all : (w₀ w : ℕ) (bs cs : List Reading) (g : Reading) → w₀ < w → g .water ≡ w₀ → Below w₀ bs → AtMost w₀ cs → Below w (bs ++ g ∷ cs)
@@ -112,9 +95,11 @@ best-judge mine gs r l b = best-line _ _ gs r _ refl b
 
 best-move : (m : Move) (d : Decoder) (gs : List Reading) → Best gs (d .reading)
     → Best (gs ++ goods (d .station) (lineAt d m)) (moved d m .reading)
-unfolding goods moved ended grown verdict
+unfolding goods moved ended grown cleared verdict
 best-move ends d gs h = rw append-nil (best-judge (d .station) gs (d .reading) (d .line) h)
 best-move (grows c) d gs h = rw append-nil h
+best-move loses d gs h = rw append-nil h
+best-move resumes d gs h = rw append-nil h
 best-move stays d gs h = rw append-nil h
 
 pub goods-append : (mine : ℕ) (k l : List Line) → goods mine (k ++ l) ≡ goods mine k ++ goods mine l
@@ -128,8 +113,8 @@ pub best-heard : (hs : List Happening) (d : Decoder) (mine : ℕ) (gs : List Rea
 unfolding linesIn tookAll took
 best-heard [] d mine gs e h = unfold goods in rw append-nil h
 best-heard (x ∷ hs) d mine gs e h =
-    let f : took d x .station ≡ mine = station-by (moveOf x) d ∙ e in
-    let k : Best (gs ++ goods mine (lineAt d (moveOf x))) (took d x .reading) = rw (← e) (best-move (moveOf x) d gs h) in
+    let f : took d x .station ≡ mine = station-by (moveAt d x) d ∙ e in
+    let k : Best (gs ++ goods mine (lineAt d (moveAt d x))) (took d x .reading) = rw (← e) (best-move (moveAt d x) d gs h) in
     rw (goods-append, ← append-assoc) (best-heard hs (took d x) mine _ f k)
 
 cons-not : (bs cs : List Reading) (g : Reading) → bs ++ g ∷ cs ≡ [] → _≡_ {A = ℕ} 0 1
@@ -165,17 +150,19 @@ along-more mine r q p k l us vs a b =
     }
 
 along-move : (m : Move) (d : Decoder) → Along (d .station) (d .reading) (lineAt d m) (verdictAt d m) (moved d m .reading)
-unfolding moved ended grown verdict shownOn answersOn
+unfolding moved ended grown cleared verdict shownOn answersOn
 along-move ends d = record { said = refl; left = refl }
 along-move (grows c) d = along-none _ _
+along-move loses d = along-none _ _
+along-move resumes d = along-none _ _
 along-move stays d = along-none _ _
 
 pub along-heard : (hs : List Happening) (d : Decoder) → Along (d .station) (d .reading) (linesIn d hs) (verdictsIn d hs) (tookAll d hs .reading)
 unfolding linesIn verdictsIn tookAll took
 along-heard [] d = along-none _ _
 along-heard (h ∷ hs) d =
-    let k = station-by (moveOf h) d in
-    along-more (d .station) _ _ _ _ _ _ _ (along-move (moveOf h) d)
+    let k = station-by (moveAt d h) d in
+    along-more (d .station) _ _ _ _ _ _ _ (along-move (moveAt d h) d)
     (subst (λ (n : ℕ). Along n (took d h .reading) (linesIn (took d h) hs) (verdictsIn (took d h) hs) (tookAll (took d h) hs .reading)) k (along-heard hs (took d h)))
 
 length-answers : (mine : ℕ) (r : Shown) (ls : List Line) → length (answersOn mine r ls) ≡ length ls
@@ -327,46 +314,55 @@ tallied-one cs a l q =
     }
 
 tallied-move : (m : Move) (d : Decoder) → length (d .counts) ≡ 12 → Tallied (d .counts) (moved d m .counts) (verdictAt d m)
-unfolding moved ended grown
+unfolding moved ended grown cleared
 tallied-move ends d l = tallied-one (d .counts) _ l (unfold verdict in judge-answers _ _ _ _)
 tallied-move (grows c) d l = tallied-none (d .counts) l
+tallied-move loses d l = tallied-none (d .counts) l
+tallied-move resumes d l = tallied-none (d .counts) l
 tallied-move stays d l = tallied-none (d .counts) l
 
 pub tallied-heard : (hs : List Happening) (d : Decoder) → length (d .counts) ≡ 12 → Tallied (d .counts) (tookAll d hs .counts) (verdictsIn d hs)
 unfolding tookAll took verdictsIn
 tallied-heard [] d l = tallied-none (d .counts) l
 tallied-heard (h ∷ hs) d l =
-    let k = tallied-move (moveOf h) d l in
+    let k = tallied-move (moveAt d h) d l in
     tallied-more _ _ _ _ _ k (tallied-heard hs (took d h) (k .long))
 
 -- ---- as many lines as answers, and no more than bytes
 lines-by : (m : Move) (d : Decoder) → length (lineAt d m) ≡ length (verdictAt d m)
 lines-by ends d = refl
 lines-by (grows c) d = refl
+lines-by loses d = refl
+lines-by resumes d = refl
 lines-by stays d = refl
 
-few-line : (d : Decoder) (t : Bool) (c : ℕ) → length (verdictAt d (if t then ends else grows c)) ≤ 1
-few-line d true c = omega arith
-few-line d false c = omega arith
+few-by-test : (d : Decoder) (m k : Move) (t : Bool) → length (verdictAt d m) ≤ 1 → length (verdictAt d k) ≤ 1 → length (verdictAt d (if t then m else k)) ≤ 1
+few-by-test d m k true p q = p
+few-by-test d m k false p q = q
 
-few-by : (d : Decoder) (h : Happening) → length (verdictAt d (moveOf h)) ≤ length (byteOf h)
+few-byte : (d : Decoder) (skipping : Bool) (c : ℕ) → length (verdictAt d (byteMove skipping c)) ≤ 1
+unfolding byteMove
+few-byte d false c = few-by-test d _ _ (eqb c 10) (omega arith) (omega arith)
+few-byte d true c = few-by-test d _ _ (eqb c 10) (omega arith) (omega arith)
+
+few-by : (d : Decoder) (skipping : Bool) (h : Happening) → length (verdictAt d (moveOf h skipping)) ≤ length (byteOf h)
 unfolding moveOf
-few-by d (Byte c) = few-line d (eqb c 10) c
-few-by d BadStop = omega arith
-few-by d Lost = omega arith
-few-by d Up = omega arith
-few-by d Down = omega arith
+few-by d skipping (Byte c) = few-byte d skipping c
+few-by d skipping BadStop = omega arith
+few-by d skipping Lost = omega arith
+few-by d skipping Up = omega arith
+few-by d skipping Down = omega arith
 
 pub lines-verdicts : (hs : List Happening) (d : Decoder) → (length (linesIn d hs) ≡ length (verdictsIn d hs)) × (length (verdictsIn d hs) ≤ length (bytesIn hs))
 unfolding linesIn verdictsIn bytesIn
 lines-verdicts [] d = (refl, omega arith)
 lines-verdicts (h ∷ hs) d =
-    let m = moveOf h in
+    let m = moveAt d h in
     let r = lines-verdicts hs (took d h) in
     let p = length-append (lineAt d m) (linesIn (took d h) hs) in
     let q = length-append (verdictAt d m) (verdictsIn (took d h) hs) in
     let b = length-append (byteOf h) (bytesIn hs) in
-    (omega (arith, p, q, lines-by m d, r .0), omega (arith, q, b, few-by d h, r .1))
+    (omega (arith, p, q, lines-by m d, r .0), omega (arith, q, b, few-by d (d .skipping) h, r .1))
 
 -- the counts together grow by no more than the bytes
 pub total-heard : (hs : List Happening) (d : Decoder) → length (d .counts) ≡ 12 → total (tookAll d hs .counts) ≤ total (d .counts) + length (bytesIn hs)

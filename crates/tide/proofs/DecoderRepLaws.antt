@@ -10,7 +10,7 @@ use native.Mathlib.Nat.{min-eq-left, min-eq-right}
 use native.Mathlib.Omega.{arith}
 use Rattle.hexadecimal.specs.Hex.{total}
 use Rattle.tide.specs.Judge.{Verdict}
-use Rattle.tide.specs.Decoder.{Line, Decoder, place, bump, verdict, ended, grown, Move, ends, grows, stays, moveOf, moved, lineAt, verdictAt, took, tookAll, linesIn, verdictsIn}
+use Rattle.tide.specs.Decoder.{Line, Decoder, place, bump, verdict, ended, grown, cleared, Move, ends, grows, loses, resumes, stays, moveOf, moveAt, moved, lineAt, verdictAt, took, tookAll, linesIn, verdictsIn}
 use Rattle.happenings.specs.declared.happening.Happening.{Happening}
 use Rattle.tide.specs.DecoderRep.{decoderOf, mostCount, held, holding, Sound}
 use Rattle.tide.specs.declared.decoder.Decoder as code
@@ -79,14 +79,20 @@ unfolding verdict holding
 same-verdict d = refl
 
 hold-move : (m : Move) (d : Decoder) → holding (moved (holding d) m) ≡ holding (moved d m)
-unfolding holding moved ended grown
+unfolding holding moved ended grown cleared
 hold-move ends d = rw (same-verdict d, held-bump (d .counts) (verdict d .answer)) refl
 hold-move (grows c) d = rw (held-held (d .counts)) refl
+hold-move loses d = rw (held-held (d .counts)) refl
+hold-move resumes d = rw (held-held (d .counts)) refl
 hold-move stays d = rw (held-held (d .counts)) refl
 
 alike-line : (c d : Decoder) → holding c ≡ holding d → c .line ≡ d .line
 unfolding holding
 alike-line c d e = ap (λ (x : Decoder). x .line) e
+
+alike-skipping : (c d : Decoder) → holding c ≡ holding d → c .skipping ≡ d .skipping
+unfolding holding
+alike-skipping c d e = ap (λ (x : Decoder). x .skipping) e
 
 alike-verdict : (c d : Decoder) → holding c ≡ holding d → verdict c ≡ verdict d
 alike-verdict c d e = sym (same-verdict c) ∙ (rw e (same-verdict d))
@@ -94,11 +100,15 @@ alike-verdict c d e = sym (same-verdict c) ∙ (rw e (same-verdict d))
 lines-alike : (m : Move) (c d : Decoder) → c .line ≡ d .line → lineAt c m ≡ lineAt d m
 lines-alike ends c d e = ap (λ (x : Line). x ∷ []) e
 lines-alike (grows k) c d e = refl
+lines-alike loses c d e = refl
+lines-alike resumes c d e = refl
 lines-alike stays c d e = refl
 
 verdicts-alike : (m : Move) (c d : Decoder) → verdict c ≡ verdict d → verdictAt c m ≡ verdictAt d m
 verdicts-alike ends c d e = ap (λ (x : Verdict). x .answer ∷ []) e
 verdicts-alike (grows k) c d e = refl
+verdicts-alike loses c d e = refl
+verdicts-alike resumes c d e = refl
 verdicts-alike stays c d e = refl
 
 -- the rest of what is heard does not see which of two decoders it is that hold alike
@@ -107,12 +117,14 @@ alike-heard : (hs : List Happening) (c d : Decoder) → holding c ≡ holding d
 unfolding tookAll linesIn verdictsIn took
 alike-heard [] c d e = (e, refl, refl)
 alike-heard (h ∷ hs) c d e =
-    let m = moveOf h in
-    let f : holding (took c h) ≡ holding (took d h) = sym (hold-move m c) ∙ ap (λ (x : Decoder). holding (moved x m)) e ∙ hold-move m d in
+    let m = moveAt d h in
+    let k : moveAt c h ≡ m = ap (moveOf h) (alike-skipping c d e) in
+    let n : holding (moved c m) ≡ holding (moved d m) = sym (hold-move m c) ∙ ap (λ (x : Decoder). holding (moved x m)) e ∙ hold-move m d in
+    let f : holding (took c h) ≡ holding (took d h) = ap (λ (x : Move). holding (moved c x)) k ∙ n in
     let r = alike-heard hs (took c h) (took d h) f in (
       r .0,
-      ap₂ (λ (xs ys : List Line). xs ++ ys) (lines-alike m c d (alike-line c d e)) (r .1),
-      ap₂ (λ (xs ys : List ℕ). xs ++ ys) (verdicts-alike m c d (alike-verdict c d e)) (r .2),
+      ap₂ (λ (xs ys : List Line). xs ++ ys) (ap (lineAt c) k ∙ lines-alike m c d (alike-line c d e)) (r .1),
+      ap₂ (λ (xs ys : List ℕ). xs ++ ys) (ap (verdictAt c) k ∙ verdicts-alike m c d (alike-verdict c d e)) (r .2),
     )
 
 -- a decoder of the code's holds as it is

@@ -5,6 +5,7 @@ pub mod JudgeLaws
 pub mod Checks
 pub mod DecoderLaws
 pub mod LinesLaws
+pub mod LossExamples
 pub mod DecoderRepLaws
 pub mod Stores
 pub mod Moves

@@ -50,7 +50,7 @@ pub stepped-end : (d : Decoder) (j : Judged) (cs : List ℕ) → Sound d
     → cs ≡ held (plain.bump (d .counts) (j .answer))
     → Stepped d plain.ends
     (record {
-      decoder = record { station = d .station; line = record { chars = d .line .chars; len = 0; more = false }; reading = j .reading; counts = cs };
+      decoder = record { station = d .station; line = record { chars = d .line .chars; len = 0; more = false }; skipping = d .skipping; reading = j .reading; counts = cs };
       ended = true;
       answer = j .answer;
     })
@@ -73,7 +73,7 @@ stepped-end d j cs s v q =
 -- a character more
 pub stepped-on : (d : Decoder) (c : ℕ) (l : Line) → Sound d → lineOf l ≡ plain.longer (lineOf (d .line)) c → SoundLine l
     → Stepped d (plain.grows c)
-    (record { decoder = record { station = d .station; line = l; reading = d .reading; counts = d .counts }; ended = false; answer = 0 })
+    (record { decoder = record { station = d .station; line = l; skipping = d .skipping; reading = d .reading; counts = d .counts }; ended = false; answer = 0 })
 unfolding plain.moved plain.grown holding
 stepped-on d c l s v m =
     record {
@@ -84,46 +84,86 @@ stepped-on d c l s v m =
       answer = refl;
     }
 
+-- a line emptied
+emptied : (d : Decoder) (skip : Bool) → Sound d
+    → Sound
+    (record {
+      station = d .station;
+      line = record { chars = d .line .chars; len = 0; more = false };
+      skipping = skip;
+      reading = d .reading;
+      counts = d .counts;
+    })
+emptied d skip s = record { line = record { short = omega arith; room = s .line .room }; places = s .places; within = s .within }
+
+-- the line is dropped
+pub stepped-clear : (d : Decoder) (skip : Bool) → Sound d
+    → Stepped d (if skip then plain.loses else plain.resumes)
+    (record {
+      decoder =
+          record {
+            station = d .station;
+            line = record { chars = d .line .chars; len = 0; more = false };
+            skipping = skip;
+            reading = d .reading;
+            counts = d .counts;
+          };
+      ended = false;
+      answer = 0;
+    })
+unfolding plain.moved plain.cleared holding
+stepped-clear d true s = record { same = rw (s .within) refl; sound = emptied d true s; few = omega arith; ended = refl; answer = refl }
+stepped-clear d false s = record { same = rw (s .within) refl; sound = emptied d false s; few = omega arith; ended = refl; answer = refl }
+
 -- nothing changes
 pub stepped-stay : (d : Decoder) → Sound d → Stepped d plain.stays (record { decoder = d; ended = false; answer = 0 })
 unfolding plain.moved holding
 stepped-stay d s = record { same = rw (s .within) refl; sound = s; few = omega arith; ended = refl; answer = refl }
 
--- the move that a happening makes
-pub move-ends : (c : ℕ) → c ≡ 10 → plain.ends ≡ plain.moveOf (Byte c)
-unfolding plain.moveOf
-move-ends c e = rw (eq-eqb c 10 e)
+-- the move that a byte makes, by the two tests
+pub move-resumes : (skipping : Bool) (c : ℕ) → skipping ≡ true → c ≡ 10 → plain.resumes ≡ plain.moveOf (Byte c) skipping
+unfolding plain.moveOf plain.byteMove
+move-resumes skipping c p q = rw (p, eq-eqb c 10 q)
 
-pub move-grows : (c : ℕ) → (c ≡ 10 → ⊥) → plain.grows c ≡ plain.moveOf (Byte c)
-unfolding plain.moveOf
-move-grows c e = rw (ne-eqb c 10 e)
+pub move-skips : (skipping : Bool) (c : ℕ) → skipping ≡ true → (c ≡ 10 → ⊥) → plain.stays ≡ plain.moveOf (Byte c) skipping
+unfolding plain.moveOf plain.byteMove
+move-skips skipping c p q = rw (p, ne-eqb c 10 q)
 
-pub move-bad : plain.stays ≡ plain.moveOf BadStop
-unfolding plain.moveOf
-move-bad = refl
+pub move-ends : (skipping : Bool) (c : ℕ) → skipping ≡ false → c ≡ 10 → plain.ends ≡ plain.moveOf (Byte c) skipping
+unfolding plain.moveOf plain.byteMove
+move-ends skipping c p q = rw (p, eq-eqb c 10 q)
 
-pub move-lost : plain.stays ≡ plain.moveOf Lost
-unfolding plain.moveOf
-move-lost = refl
+pub move-grows : (skipping : Bool) (c : ℕ) → skipping ≡ false → (c ≡ 10 → ⊥) → plain.grows c ≡ plain.moveOf (Byte c) skipping
+unfolding plain.moveOf plain.byteMove
+move-grows skipping c p q = rw (p, ne-eqb c 10 q)
 
-pub move-up : plain.stays ≡ plain.moveOf Up
+-- the move that any other happening makes
+pub move-bad : (skipping : Bool) → plain.stays ≡ plain.moveOf BadStop skipping
 unfolding plain.moveOf
-move-up = refl
+move-bad skipping = refl
 
-pub move-down : plain.stays ≡ plain.moveOf Down
+pub move-lost : (skipping : Bool) → plain.loses ≡ plain.moveOf Lost skipping
 unfolding plain.moveOf
-move-down = refl
+move-lost skipping = refl
+
+pub move-up : (skipping : Bool) → plain.stays ≡ plain.moveOf Up skipping
+unfolding plain.moveOf
+move-up skipping = refl
+
+pub move-down : (skipping : Bool) → plain.stays ≡ plain.moveOf Down skipping
+unfolding plain.moveOf
+move-down skipping = refl
 
 -- the same move by another name
 pub by-move : (d : Decoder) (r : Step) (m n : plain.Move) → m ≡ n → Stepped d m r → Stepped d n r
 by-move d r m n e s = subst (λ (x : plain.Move). Stepped d x r) e s
 
-pub one-end : (f : Fed) (h : Happening) (t : Step) (out out′ : List ℕ) → Stepped (f .decoder) (plain.moveOf h) t → t .ended ≡ true
+pub one-end : (f : Fed) (h : Happening) (t : Step) (out out′ : List ℕ) → Stepped (f .decoder) (plain.moveAt (decoderOf (f .decoder)) h) t → t .ended ≡ true
     → out′ ≡ set out (f .lines) (t .answer)
     → FedOne f h out (record { decoder = t .decoder; lines = f .lines + 1; last = t .answer }) out′
 unfolding plain.took
 one-end f h t out out′ s e v =
-    let k : isEnd (plain.moveOf h) ≡ true = sym (s .ended) ∙ e in
+    let k : isEnd (plain.moveAt (decoderOf (f .decoder)) h) ≡ true = sym (s .ended) ∙ e in
     let a : t .answer ≡ plain.verdict (decoderOf (f .decoder)) .answer = rw k at (s .answer) in
     record {
       same = s .same;
@@ -133,11 +173,11 @@ one-end f h t out out′ s e v =
       verdicts = rw (k, ← a) v;
     }
 
-pub one-on : (f : Fed) (h : Happening) (t : Step) (out : List ℕ) → Stepped (f .decoder) (plain.moveOf h) t → t .ended ≡ false
+pub one-on : (f : Fed) (h : Happening) (t : Step) (out : List ℕ) → Stepped (f .decoder) (plain.moveAt (decoderOf (f .decoder)) h) t → t .ended ≡ false
     → FedOne f h out (record { decoder = t .decoder; lines = f .lines; last = f .last }) out
 unfolding plain.took
 one-on f h t out s e =
-    let k : isEnd (plain.moveOf h) ≡ false = sym (s .ended) ∙ e in
+    let k : isEnd (plain.moveAt (decoderOf (f .decoder)) h) ≡ false = sym (s .ended) ∙ e in
     record {
       same = s .same;
       sound = s .sound;
@@ -169,11 +209,15 @@ last-by : (m : plain.Move) (d : plain.Decoder) (l : ℕ) (r : List ℕ)
 unfolding plain.lastOf
 last-by plain.ends d l r = refl
 last-by (plain.grows c) d l r = refl
+last-by plain.loses d l r = refl
+last-by plain.resumes d l r = refl
 last-by plain.stays d l r = refl
 
 length-by : (m : plain.Move) (d : plain.Decoder) (r : List plain.Line) → length (plain.lineAt d m ++ r) ≡ (if isEnd m then 1 else 0) + length r
 length-by plain.ends d r = omega arith
 length-by (plain.grows c) d r = omega arith
+length-by plain.loses d r = omega arith
+length-by plain.resumes d r = omega arith
 length-by plain.stays d r = omega arith
 
 upto-by : (t : Bool) → (if t then 1 else 0) ≤ 1
@@ -184,12 +228,16 @@ upto-by false = omega arith
 each-by : (m : plain.Move) (d : plain.Decoder) (vs : List ℕ) (n : ℕ) → length vs ≡ n → length (vs ++ plain.verdictAt d m) ≡ n + (if isEnd m then 1 else 0)
 each-by plain.ends d vs n e = omega (arith, e, length-append vs (plain.verdict d .answer ∷ []))
 each-by (plain.grows c) d vs n e = rw append-nil (omega (arith, e))
+each-by plain.loses d vs n e = rw append-nil (omega (arith, e))
+each-by plain.resumes d vs n e = rw append-nil (omega (arith, e))
 each-by plain.stays d vs n e = rw append-nil (omega (arith, e))
 
 laid-by : (m : plain.Move) (d : plain.Decoder) (vs out : List ℕ) (n : ℕ) → length vs ≡ n
     → (if isEnd m then set (plain.laidIn vs out) n (plain.verdict d .answer) else plain.laidIn vs out) ≡ plain.laidIn (vs ++ plain.verdictAt d m) out
 laid-by plain.ends d vs out n e = rw (← e) (sym (laid-more vs (plain.verdict d .answer) out))
 laid-by (plain.grows c) d vs out n e = rw append-nil refl
+laid-by plain.loses d vs out n e = rw append-nil refl
+laid-by plain.resumes d vs out n e = rw append-nil refl
 laid-by plain.stays d vs out n e = rw append-nil refl
 
 pub going-on : (d : Decoder) (cs out : List ℕ) (i : ℕ) (f r : Fed) (o o′ : List ℕ) → Going d cs out i f o → i < length cs
@@ -197,8 +245,8 @@ pub going-on : (d : Decoder) (cs out : List ℕ) (i : ℕ) (f r : Fed) (o o′ :
 unfolding plain.tookAll plain.linesIn plain.verdictsIn happeningsOf
 going-on d cs out i f r o o′ g h b =
     let x = happeningOf (getD cs i 0) in
-    let m = plain.moveOf x in
     let p = decoderOf (f .decoder) in
+    let m = plain.moveAt p x in
     let rest = happeningsOf (drop (i + 1) cs) in
     let next = plain.took p x in
     let e : drop i cs ≡ getD cs i 0 ∷ drop (i + 1) cs = rw (add-one i) (drop-cons cs i 0 h) in

@@ -22,16 +22,18 @@ pub record Line : Type 0 where
 abbrev pub emptyLine : Line
 emptyLine = record { chars = []; more = false }
 
--- the part of the plain board that what is heard changes: "station, .. the unended line, reading or none, one count for each line answer"
+-- the part of the plain board that what is heard changes: "station, .. the unended line, reading or none, one count for each line answer"; and
+-- "The plain board gains one yes or no, skipping"
 pub record Decoder : Type 0 where
   pub station : ℕ
   pub line : Line
+  pub skipping : Bool
   pub reading : Shown
   pub counts : List ℕ
 
--- "A fresh one .. has an empty line, no reading and all counts 0"
+-- "A fresh one .. has an empty line, no reading and all counts 0"; it does not skip
 unfoldable pub freshDecoder : ℕ → Decoder
-freshDecoder station = record { station = station; line = emptyLine; reading = none; counts = replicate 12 0 }
+freshDecoder station = record { station = station; line = emptyLine; skipping = false; reading = none; counts = replicate 12 0 }
 
 -- the answers that a line can get
 abbrev pub IsAnswer : ℕ → Type 0
@@ -59,6 +61,7 @@ ended d =
     record {
       station = d .station;
       line = emptyLine;
+      skipping = d .skipping;
       reading = verdict d .reading;
       counts = bump (d .counts) (verdict d .answer);
     }
@@ -72,7 +75,11 @@ longer l c =
 
 -- a decoder whose line has a character more
 unfoldable pub grown : Decoder → ℕ → Decoder
-grown d c = record { station = d .station; line = longer (d .line) c; reading = d .reading; counts = d .counts }
+grown d c = record { station = d .station; line = longer (d .line) c; skipping = d .skipping; reading = d .reading; counts = d .counts }
+
+-- a decoder whose unended line is dropped, and that skips from here on, or no more
+unfoldable pub cleared : Decoder → Bool → Decoder
+cleared d skip = record { station = d .station; line = emptyLine; skipping = skip; reading = d .reading; counts = d .counts }
 
 -- ---- what is heard
 -- what a happening does to a decoder
@@ -81,38 +88,57 @@ pub data Move : Type 0 where
   ends : Move
   -- a character more
   grows : ℕ → Move
+  -- the line is dropped, and what comes is skipped
+  loses : Move
+  -- the 0A up to which was skipped: lines begin again
+  resumes : Move
   -- nothing changes
   stays : Move
 
--- "adds each byte to the line": 0A (10) ends it; "a line runs on over a lost carrier"
-unfoldable pub moveOf : Happening → Move
-moveOf (Byte c) = if eqb c 10 then ends else grows c
-moveOf BadStop = stays
-moveOf Lost = stays
-moveOf Up = stays
-moveOf Down = stays
+-- "adds each byte to the line": 0A (10) ends it. While skipping, "up to and including the next 0A", a byte is of no line
+unfoldable pub byteMove : Bool → ℕ → Move
+byteMove false c = if eqb c 10 then ends else grows c
+byteMove true c = if eqb c 10 then resumes else stays
+
+-- "A lost carrier voids the line", skipping or not
+unfoldable pub moveOf : Happening → Bool → Move
+moveOf (Byte c) skipping = byteMove skipping c
+moveOf BadStop skipping = stays
+moveOf Lost skipping = loses
+moveOf Up skipping = stays
+moveOf Down skipping = stays
+
+-- the move that it makes at a decoder as it stands
+abbrev pub moveAt : Decoder → Happening → Move
+moveAt d h = moveOf h (d .skipping)
 
 -- a decoder after a move
 unfoldable pub moved : Decoder → Move → Decoder
 moved d ends = ended d
 moved d (grows c) = grown d c
+moved d loses = cleared d true
+moved d resumes = cleared d false
 moved d stays = d
 
 -- the line that a move ends: one, or none
 abbrev pub lineAt : Decoder → Move → List Line
 lineAt d ends = d .line ∷ []
 lineAt d (grows c) = []
+lineAt d loses = []
+lineAt d resumes = []
 lineAt d stays = []
 
 -- the answer that this line gets: one, or none
 abbrev pub verdictAt : Decoder → Move → List ℕ
 verdictAt d ends = verdict d .answer ∷ []
 verdictAt d (grows c) = []
+verdictAt d loses = []
+verdictAt d resumes = []
 verdictAt d stays = []
 
 -- a decoder after a happening
 unfoldable pub took : Decoder → Happening → Decoder
-took d h = moved d (moveOf h)
+took d h = moved d (moveAt d h)
 
 -- a decoder after what was heard, in order
 unfoldable pub tookAll : Decoder → List Happening → Decoder
@@ -122,12 +148,12 @@ tookAll d (h ∷ hs) = tookAll (took d h) hs
 -- the lines that are ended, in order
 unfoldable pub linesIn : Decoder → List Happening → List Line
 linesIn d [] = []
-linesIn d (h ∷ hs) = lineAt d (moveOf h) ++ linesIn (took d h) hs
+linesIn d (h ∷ hs) = lineAt d (moveAt d h) ++ linesIn (took d h) hs
 
 -- the answers that those lines get, in order
 unfoldable pub verdictsIn : Decoder → List Happening → List ℕ
 verdictsIn d [] = []
-verdictsIn d (h ∷ hs) = verdictAt d (moveOf h) ++ verdictsIn (took d h) hs
+verdictsIn d (h ∷ hs) = verdictAt d (moveAt d h) ++ verdictsIn (took d h) hs
 
 -- answers laid at the front of a slice, as many as have room; the rest of it as it was
 unfoldable pub laidIn : List ℕ → List ℕ → List ℕ

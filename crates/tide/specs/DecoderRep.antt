@@ -19,9 +19,9 @@ use Rattle.tide.specs.declared.decoder.Fed.{Fed}
 abbrev pub lineOf : Line → plain.Line
 lineOf l = record { chars = take (l .len) (l .chars); more = l .more }
 
--- the same station, line, reading and counts
+-- the same station, line, reading and counts, and whether it skips
 abbrev pub decoderOf : Decoder → plain.Decoder
-decoderOf d = record { station = d .station; line = lineOf (d .line); reading = shownOf (d .reading); counts = d .counts }
+decoderOf d = record { station = d .station; line = lineOf (d .line); skipping = d .skipping; reading = shownOf (d .reading); counts = d .counts }
 
 -- ---- counts of 64 bits: each holds at the most that it can say, 18,446,744,073,709,551,615
 abbrev pub mostCount : ℕ
@@ -33,7 +33,7 @@ held (n ∷ cs) = min n mostCount ∷ held cs
 
 -- a decoder whose counts hold there; it is the same decoder while all counts together are no more (proofs/DecoderLaws.antt, holds)
 unfoldable pub holding : plain.Decoder → plain.Decoder
-holding d = record { station = d .station; line = d .line; reading = d .reading; counts = held (d .counts) }
+holding d = record { station = d .station; line = d .line; skipping = d .skipping; reading = d .reading; counts = held (d .counts) }
 
 -- ---- a state that `new` or a later call gave
 pub record SoundLine (l : Line) : Type 0 where
@@ -55,6 +55,8 @@ pub record Made (station : ℕ) (d : Decoder) : Type 0 where
 abbrev pub isEnd : plain.Move → Bool
 isEnd plain.ends = true
 isEnd (plain.grows c) = false
+isEnd plain.loses = false
+isEnd plain.resumes = false
 isEnd plain.stays = false
 
 -- one move: the decoder after it, whether it ended a line, and that line's answer (0 where it ended none)
@@ -79,6 +81,6 @@ pub record Feeds (d : Decoder) (hs : List Happening) (out : List ℕ) (r : Fed) 
 pub record FedOne (f : Fed) (h : Happening) (out : List ℕ) (r : Fed) (out′ : List ℕ) : Type 0 where
   pub same : decoderOf (r .decoder) ≡ holding (plain.took (decoderOf (f .decoder)) h)
   pub sound : Sound (r .decoder)
-  pub lines : r .lines ≡ f .lines + (if isEnd (plain.moveOf h) then 1 else 0)
-  pub last : r .last ≡ (if isEnd (plain.moveOf h) then plain.verdict (decoderOf (f .decoder)) .answer else f .last)
-  pub verdicts : out′ ≡ (if isEnd (plain.moveOf h) then set out (f .lines) (plain.verdict (decoderOf (f .decoder)) .answer) else out)
+  pub lines : r .lines ≡ f .lines + (if isEnd (plain.moveAt (decoderOf (f .decoder)) h) then 1 else 0)
+  pub last : r .last ≡ (if isEnd (plain.moveAt (decoderOf (f .decoder)) h) then plain.verdict (decoderOf (f .decoder)) .answer else f .last)
+  pub verdicts : out′ ≡ (if isEnd (plain.moveAt (decoderOf (f .decoder)) h) then set out (f .lines) (plain.verdict (decoderOf (f .decoder)) .answer) else out)

@@ -1,4 +1,4 @@
-// The decoder: the unended line, the reading and the counts, and what is heard does to them.
+// The decoder: the unended line, whether what comes is skipped, the reading and the counts, and what is heard does to them.
 use crate::Shown;
 use crate::judge::judge_line;
 use happenings::Happening;
@@ -6,9 +6,10 @@ use happenings::happening_of;
 ghost use mathlib.Core.Path.{_≡_};
 ghost use Prim.Native.Nat.{_+_, _<_, min};
 ghost use lib.ListN.{length, set};
+ghost use Rattle.numeric.specs.If.{if_then_else_};
 ghost use Rattle.happenings.specs.Happening.{happeningsOf};
 ghost use Rattle.happenings.specs.declared.happening.Happening.the-variants.{Byte};
-ghost use Rattle.tide.specs.Decoder.{IsAnswer, place, countOf, bump, longer, ends, grows, stays, moveOf};
+ghost use Rattle.tide.specs.Decoder.{IsAnswer, place, countOf, bump, longer, ends, grows, loses, resumes, stays, moveOf};
 ghost use Rattle.tide.specs.JudgeRep.{shownOf};
 ghost use Rattle.tide.specs.DecoderRep.{lineOf, decoderOf, mostCount, held, SoundLine, Sound, Made, Stepped, FedOne, Feeds};
 
@@ -19,10 +20,12 @@ pub struct Line {
     more: bool,
 }
 
-// What is heard changes: the station's unended line, its reading, and its counts.
+// What is heard changes: the station's unended line, whether what comes is skipped, its reading, and its counts.
 pub struct Decoder {
     station: u16,
     line: Line,
+    // From a lost carrier up to and including the next 0A.
+    skipping: bool,
     reading: Shown,
     // One for each line answer: 0, 11 to 20, 34.
     counts: [u64; 12],
@@ -118,6 +121,7 @@ impl Decoder {
         Decoder {
             station: station,
             line: line,
+            skipping: false,
             reading: Shown::None,
             counts: [0; 12],
         }
@@ -144,6 +148,7 @@ impl Decoder {
         let nd = Decoder {
             station: self.station,
             line: nl,
+            skipping: self.skipping,
             reading: nr,
             counts: nc,
         };
@@ -166,6 +171,35 @@ impl Decoder {
         let nd = Decoder {
             station: self.station,
             line: longer,
+            skipping: self.skipping,
+            reading: rd,
+            counts: cs,
+        };
+        Step {
+            decoder: nd,
+            ended: false,
+            answer: 0,
+        }
+    }
+
+    // The line is dropped; what comes is skipped, or no more.
+    fn clear(self, skip: bool) -> Step
+        requires { ⌜ Sound self ⌝ }
+        ensures { λ r. ⌜ Stepped self (if skip then loses else resumes) r ⌝ }
+    {
+        let l = self.line;
+        let ch = l.chars;
+        let rd = self.reading;
+        let cs = self.counts;
+        let empty = Line {
+            chars: ch,
+            len: 0,
+            more: false,
+        };
+        let nd = Decoder {
+            station: self.station,
+            line: empty,
+            skipping: skip,
             reading: rd,
             counts: cs,
         };
@@ -188,26 +222,32 @@ impl Decoder {
         }
     }
 
-    // Takes one byte: 0A ends the line.
+    // Takes one byte: 0A ends the line, or what is skipped.
     pub fn add_byte(self, c: u8) -> Step
         requires { ⌜ Sound self ⌝ }
-        ensures { λ r. ⌜ Stepped self (moveOf (Byte c)) r ⌝ }
+        ensures { λ r. ⌜ Stepped self (moveOf (Byte c) (self .skipping)) r ⌝ }
     {
+        if self.skipping {
+            if c == 10 {
+                return self.clear(false);
+            }
+            return self.stay();
+        }
         if c == 10 {
             return self.end_line();
         }
         self.grow(c)
     }
 
-    // Takes what happened at a step: a byte. A line runs on over a lost carrier.
+    // Takes what happened at a step: a byte; or the carrier was lost, which voids the line.
     pub fn take(self, h: Happening) -> Step
         requires { ⌜ Sound self ⌝ }
-        ensures { λ r. ⌜ Stepped self (moveOf h) r ⌝ }
+        ensures { λ r. ⌜ Stepped self (moveOf h (self .skipping)) r ⌝ }
     {
         match h {
             Happening::Byte(c) => self.add_byte(c),
             Happening::BadStop => self.stay(),
-            Happening::Lost => self.stay(),
+            Happening::Lost => self.clear(true),
             Happening::Up => self.stay(),
             Happening::Down => self.stay(),
         }

@@ -15,16 +15,20 @@ tick-requires c κs = search needs
 slice-requires : tie.Need-slice-requires
 slice-requires c κs = search needs
 
+kept-by-requires : tie.Need-kept-by-requires
+kept-by-requires c κs = search needs
+
 returns : tie.Need-returns
 unfolding finished
 returns c rings =
-    let bit = c .before .before .before .before .before .before .slice .ensures in
+    let bit = c .before .before .before .before .before .before .before .slice .ensures in
     rw (
+      c .before .before .before .before .before .kept-by .ensures,
       ap (λ (x : Deframed). x .state) bit,
       ap (λ (x : Deframed). x .heard) bit,
-      c .before .before .before .before .before .before .before .before .tick .ensures,
-      c .before .before .before .before .before .before .before .before .before .event-of .ensures,
+      c .before .before .before .before .before .before .before .before .before .tick .ensures,
+      c .before .before .before .before .before .before .before .before .before .before .event-of .ensures,
     )
 
 pub finish-spec : {M : Type 1} → statement M
-finish-spec = tie.close (tie.spec event-of-requires tick-requires slice-requires returns)
+finish-spec = tie.close (tie.spec event-of-requires tick-requires slice-requires kept-by-requires returns)
