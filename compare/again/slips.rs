@@ -5,7 +5,7 @@
 
 use crate::copy::Slip;
 
-pub const SLIPS: [Slip; 48] = [
+pub const SLIPS: [Slip; 52] = [
     Slip {
         name: "residue-wrapped",
         file: "rx.rs",
@@ -123,8 +123,8 @@ pub const SLIPS: [Slip; 48] = [
     Slip {
         name: "half-byte-kept-by-a-board",
         file: "hearing.rs",
-        old: "pub const BOARD: Manner = Manner { drops_half_byte: true };",
-        new: "pub const BOARD: Manner = Manner { drops_half_byte: false };",
+        old: "Manner { drops_half_byte: true, limits_error: true }",
+        new: "Manner { drops_half_byte: false, limits_error: true }",
     },
     Slip {
         name: "loss-of-a-reported-carrier-alone",
@@ -167,6 +167,30 @@ pub const SLIPS: [Slip; 48] = [
         file: "judge.rs",
         old: "        for happening in heard {\n",
         new: "        let mut heard = heard;\n        heard.sort_by_key(|h| matches!(h, Heard::Lost { .. }));\n        for happening in heard {\n",
+    },
+    Slip {
+        name: "error-not-limited-by-a-board",
+        file: "hearing.rs",
+        old: "Manner { drops_half_byte: true, limits_error: true }",
+        new: "Manner { drops_half_byte: true, limits_error: false }",
+    },
+    Slip {
+        name: "error-limited-at-2",
+        file: "hearing.rs",
+        old: "error.clamp(-1.0, 1.0)",
+        new: "error.clamp(-2.0, 2.0)",
+    },
+    Slip {
+        name: "error-limited-behind-the-gain",
+        file: "hearing.rs",
+        old: "GAIN * error.clamp(-1.0, 1.0)",
+        new: "(GAIN * error).clamp(-1.0, 1.0)",
+    },
+    Slip {
+        name: "error-below-0-taken-as-the-least",
+        file: "hearing.rs",
+        old: "error.clamp(-1.0, 1.0)",
+        new: "(if error < 0.0 { -1.0 } else { error.min(1.0) })",
     },
     Slip {
         name: "highest-bit-first",

@@ -3,6 +3,7 @@
 //! they show after it.
 
 use crate::cases::{rate_of, Cut};
+use crate::hearing::Timing;
 use crate::judge::{board_refusal, Board, Losses};
 use crate::layout::*;
 use crate::lines::line;
@@ -48,6 +49,41 @@ pub struct Seen {
     /// Cases that were compared after every write.
     pub every: usize,
     pub losses: Losses,
+    pub pace: Pace,
+}
+
+/// How often the limit acted, and how far apart boundaries lay.
+#[derive(Default)]
+pub struct Pace {
+    pub boundaries: u64,
+    pub limited: u64,
+    pub fewest: Option<u64>,
+    pub most: Option<u64>,
+}
+
+impl Pace {
+    /// "Neighbouring boundaries then lie 21 to 33 steps apart, and the first comes
+    /// within 32 steps of the ring filling."
+    fn add(&mut self, timing: Timing) -> Result<(), String> {
+        self.boundaries += timing.boundaries;
+        self.limited += timing.beyond;
+        self.join(timing.fewest, timing.most);
+        if self.fewest < Some(21) && self.fewest.is_some()
+            || self.most > Some(33)
+            || timing.first > 32
+        {
+            return Err(format!(
+                "boundaries {:?} to {:?} steps apart, the first at {}",
+                timing.fewest, timing.most, timing.first
+            ));
+        }
+        Ok(())
+    }
+
+    fn join(&mut self, fewest: Option<u64>, most: Option<u64>) {
+        self.fewest = [self.fewest, fewest].into_iter().flatten().min();
+        self.most = self.most.max(most);
+    }
 }
 
 impl BoardCase {
@@ -123,8 +159,8 @@ impl BoardCase {
         BoardCase { rate, station, role, samples, lengths, answers, shown: SHOWN }
     }
 
-    /// The losses of the independent board on the whole list, and what it shows.
-    pub fn model(&self) -> (Losses, [u64; SHOWN]) {
+    /// The independent board behind the whole list.
+    pub fn model(&self) -> Board {
         let mut board = Board::new(self.rate, self.station, self.role);
         let mut rest = &self.samples[..];
         for &length in &self.lengths {
@@ -132,7 +168,7 @@ impl BoardCase {
             board.write(block);
             rest = behind;
         }
-        (board.losses, board.shown())
+        board
     }
 
     fn run(&self, side: &Side, writes: usize) -> Listened {
@@ -184,7 +220,9 @@ impl BoardCase {
             seen.answers.copy_from_slice(&whole.shown[3..SHOWN]);
         }
         if board_refusal(self.rate, self.station) == 0 {
-            seen.losses = self.model().0;
+            let board = self.model();
+            seen.losses = board.losses;
+            seen.pace.add(board.timing())?;
         }
         Ok(seen)
     }
@@ -202,6 +240,9 @@ impl Seen {
             all.lists += case.lists;
             all.every += case.every;
             all.losses.join(&case.losses);
+            all.pace.boundaries += case.pace.boundaries;
+            all.pace.limited += case.pace.limited;
+            all.pace.join(case.pace.fewest, case.pace.most);
         }
         all
     }

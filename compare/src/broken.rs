@@ -208,7 +208,8 @@ mod tests {
     fn the_next_call_is_found_in_the_write_that_loses_the_carrier() {
         for rate in SLOW_RATES {
             for role in [ORIGINATE, ANSWER] {
-                let (losses, shown) = found_again(rate, role).model();
+                let board = found_again(rate, role).model();
+                let (losses, shown) = (board.losses, board.shown());
                 assert_eq!((losses.all, losses.in_a_line, losses.before_an_end), (1, 1, 1));
                 // UU before the first 0A is a line, and the stump is none.
                 assert_eq!(shown[..3], [1, 12_582_907, 412]);

@@ -8,6 +8,7 @@ use crate::boards::{BoardCase, Seen};
 use crate::cases::{
     bits_of, Heard, ReceiverCase, Resampled, ResamplerCase, SenderCase, Sent, TurnsCase, RATES,
 };
+use crate::clicks::Behind;
 use crate::difference::{of_heard, of_resampled, of_turned};
 use crate::frames::{frame_bytes, State};
 use crate::layout::*;
@@ -71,7 +72,7 @@ pub fn run(options: &Options) -> ExitCode {
         println!("    {reason}: {lines} lines");
     }
     let start = Instant::now();
-    let parts: [(&str, Part); 16] = [
+    let parts: [(&str, Part); 17] = [
         ("refused rates", refused_rates),
         ("refused boards", refused_boards),
         ("frames", frames),
@@ -86,6 +87,7 @@ pub fn run(options: &Options) -> ExitCode {
         ("from sender to receiver", loops),
         ("board", board_cases),
         ("board, calls that break off", broken_calls),
+        ("board, clicks before calls", clicked_calls),
         ("digits", |o| digits::compare(o.seed, o.cases).map_err(plain)),
         ("settings", |o| settings::compare(o.seed, o.cases.div_ceil(26)).map_err(plain)),
     ];
@@ -415,6 +417,46 @@ fn broken_calls(options: &Options) -> Result<String, Found> {
     Ok(listed(cases, &seen))
 }
 
+/// The random clicks among which the worst is looked for.
+const CLICKS: usize = 1_000;
+
+/// Likewise: clicks and steps that throw a bare receiver's timing off, on a fresh
+/// board and between two calls. The line behind them must be shown.
+fn clicked_calls(options: &Options) -> Result<String, Found> {
+    let cases = 4 * RATES.len();
+    let (behind, seen): (Vec<Behind>, Vec<Seen>) = workers::all(0..cases, |index| {
+        let mut random = Random::of_case(options.seed ^ 0x434C, index as u64);
+        let (rate, role) = (RATES[index / 4], index as u32 / 2 % 2);
+        let behind = match index % 2 {
+            0 => Behind::fresh(index / 2, rate, role, CLICKS, &mut random),
+            _ => Behind::between_calls(index / 2, rate, role, &mut random),
+        };
+        let name = format!("case {index} of seed {}: ", options.seed);
+        let seen = behind.case.seen().map_err(|words| plain(format!("{name}{words}")))?;
+        if !behind.is_shown() {
+            return Err(plain(format!("{name}the line behind the clicks is not shown")));
+        }
+        Ok((behind, seen))
+    })?
+    .into_iter()
+    .unzip();
+    // A filter smears a click, but not at 8,000, the first of the rates.
+    for (rates, some) in [("8000", &behind[..4]), ("the other rates", &behind[4..])] {
+        let error = some.iter().map(|behind| behind.error).fold(0.0, f64::max);
+        let deaf = some.iter().map(|behind| behind.deaf / 300.0).fold(0.0, f64::max);
+        println!("    at {rates} errors to {error:.0}, a bare receiver deaf for {deaf:.1} s");
+    }
+    let unheard = behind.iter().filter(|behind| !behind.bare_hears).count();
+    println!(
+        "    a bare receiver does not hear the line in {unheard} cases, the board shows it in all"
+    );
+    let thrown = behind.iter().any(|behind| behind.error > 1e6);
+    let seen = told(&seen);
+    let far = thrown && unheard > 0 && seen.pace.limited > 0;
+    reached(options, &[("clicks that throw the timing far off", far)])?;
+    Ok(listed(cases, &seen))
+}
+
 /// What so many cases brought about, where nothing differs.
 fn boards(
     options: &Options,
@@ -427,12 +469,24 @@ fn boards(
         let name = format!("case {index} of seed {}: ", options.seed);
         case.seen().map_err(|words| plain(format!("{name}{words}")))
     })?;
-    let seen = Seen::sum(&seen);
+    Ok(told(&seen))
+}
+
+/// Their sum, printed.
+fn told(seen: &[Seen]) -> Seen {
+    let seen = Seen::sum(seen);
     println!(
         "    {} writes, {} refused; {} bytes, {} bad stops; lines answered 0, 11 to 20, 34: {:?}",
         seen.writes, seen.refused, seen.bytes, seen.bad_stops, seen.answers
     );
-    Ok(seen)
+    println!(
+        "    the limit acted at {} of {} boundaries, which lay {} to {} steps apart",
+        seen.pace.limited,
+        seen.pace.boundaries,
+        seen.pace.fewest.unwrap_or(0),
+        seen.pace.most.unwrap_or(0)
+    );
+    seen
 }
 
 fn listed(cases: usize, seen: &Seen) -> String {

@@ -23,22 +23,72 @@ pub struct Manner {
     /// "At the step where the detector goes down, the board's receiver drops the
     /// half byte (deframer idle, error count kept)".
     drops_half_byte: bool,
+    /// "Boards limit the error to -1 through 1 before the gain."
+    limits_error: bool,
 }
 
-/// Nothing: "the bare receiver keeps Rust's half byte".
-#[cfg(test)]
-pub const BARE: Manner = Manner { drops_half_byte: false };
-pub const BOARD: Manner = Manner { drops_half_byte: true };
+/// Nothing: "the bare receiver keeps Rust's half byte", "the bare receiver remains
+/// unlimited".
+pub const BARE: Manner = Manner { drops_half_byte: false, limits_error: false };
+pub const BOARD: Manner = Manner { drops_half_byte: true, limits_error: true };
+
+/// The timing loop's gain in rx.rs.
+const GAIN: f64 = 0.15;
+
+/// How the symbol boundaries of a receiver came about.
+#[derive(Clone, Copy, Default)]
+pub struct Timing {
+    pub boundaries: u64,
+    /// Those whose error lay beyond -1 or 1.
+    pub beyond: u64,
+    /// The largest error, whichever way.
+    pub largest: f64,
+    /// The step of the first boundary, that in which the ring fills being 1.
+    pub first: u64,
+    /// The fewest and the most steps from one boundary to the next.
+    pub fewest: Option<u64>,
+    pub most: Option<u64>,
+    /// Steps since the last boundary, or since the ring filled.
+    since: u64,
+}
+
+impl Timing {
+    /// A boundary in this step.
+    fn boundary(&mut self) {
+        if self.boundaries == 0 {
+            self.first = self.since;
+        } else {
+            self.fewest = Some(self.fewest.unwrap_or(self.since).min(self.since));
+            self.most = Some(self.most.unwrap_or(self.since).max(self.since));
+        }
+        self.boundaries += 1;
+        self.since = 0;
+    }
+
+    fn error(&mut self, error: f64) {
+        self.beyond += u64::from(error.abs() > 1.0);
+        self.largest = self.largest.max(error.abs());
+    }
+}
+
+/// The timing loop's numbers before a step.
+struct Before {
+    phase: f64,
+    last: f64,
+    mid: f64,
+    have_mid: bool,
+}
 
 /// A receiver that tells what it hears at once, so that nothing waits in it.
 pub struct Ears {
     pub receiver: Receiver,
     manner: Manner,
+    pub timing: Timing,
 }
 
 impl Ears {
     pub fn new(rate: u32, role: u32, manner: Manner) -> Ears {
-        Ears { receiver: Receiver::new(rate, role), manner }
+        Ears { receiver: Receiver::new(rate, role), manner, timing: Timing::default() }
     }
 
     /// What is heard in the samples, or the number of the refusal.
@@ -60,6 +110,8 @@ impl Ears {
     fn step(&mut self, sample: f64, heard: &mut Vec<Heard>) {
         let rx = &mut self.receiver.rx;
         let (detected, errors) = (rx.energy_carrier.detected, rx.deframer.errors);
+        let (phase, have_mid) = (rx.sym_phase, rx.have_mid);
+        let before = Before { phase, last: rx.last_sym, mid: rx.mid_sym, have_mid };
         rx.push_sample(sample);
         // Nothing is sliced in a step in which the detector is down.
         if detected && !rx.energy_carrier.detected {
@@ -72,6 +124,32 @@ impl Ears {
             heard.push(Heard::BadStop);
         }
         heard.extend(rx.out.drain(..).map(Heard::Byte));
+        if rx.filled {
+            self.time(&before);
+        }
+    }
+
+    /// Behind a step at a boundary, the phase as the limited error leaves it.
+    fn time(&mut self, before: &Before) {
+        let rx = &mut self.receiver.rx;
+        let phase = before.phase + rx.sym_inc;
+        self.timing.since += 1;
+        if phase < 1.0 {
+            return;
+        }
+        self.timing.boundary();
+        if !before.have_mid {
+            return;
+        }
+        // The original's error. What it sliced at this boundary is now its last.
+        let mag = rx.last_sym.abs() + before.last.abs() + 1e-9;
+        let error = (rx.last_sym - before.last) * before.mid / (mag * mag);
+        let residue = phase - 1.0;
+        assert_eq!(rx.sym_phase.to_bits(), (residue + GAIN * error).to_bits());
+        self.timing.error(error);
+        if self.manner.limits_error {
+            rx.sym_phase = residue + GAIN * error.clamp(-1.0, 1.0);
+        }
     }
 }
 

@@ -1,7 +1,7 @@
 //! The board, written from documents 01 and 02 alone: what it hears
 //! (`hearing.rs`), and a judge of tide lines that shares nothing with the port's.
 
-use crate::hearing::{Ears, Heard, BOARD};
+use crate::hearing::{Ears, Heard, Timing, BOARD};
 use crate::layout::*;
 use crate::oracle::{part, rate_fits};
 
@@ -193,6 +193,10 @@ impl Board {
             }
         }
         answer
+    }
+
+    pub fn timing(&self) -> Timing {
+        self.ears.timing
     }
 
     /// What is shown, and the counts (`layout::SHOWN`).

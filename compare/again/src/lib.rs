@@ -12,6 +12,7 @@ include!(concat!(env!("OUT_DIR"), "/lib.rs"));
 extern crate self as original;
 
 // What stands before the original, as the build script copied it.
+#[allow(dead_code)]
 mod hearing {
     include!(concat!(env!("OUT_DIR"), "/hearing.rs"));
 }

@@ -1,6 +1,7 @@
 -- The plain board's laws, the third term and the starred examples; then what the proofs of the functions cite.
 pub mod PlainLaws
 pub mod ReceiverLaws
+pub mod SymbolLaws
 pub mod Third
 pub mod Starred
 pub mod HostedLaws

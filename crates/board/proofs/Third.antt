@@ -25,6 +25,8 @@ use Rattle.modem.specs.Listener.{freshDemod}
 use Rattle.modem.specs.Rx.{CountsAll}
 use Rattle.board.proofs.ReceiverLaws.{all-given, fresh-errors}
 use Rattle.board.proofs.PlainLaws.{all-decoder, all-lines, all-verdicts, all-ended}
+use Rattle.board.specs.Symbols.{KeepsPace}
+use Rattle.board.proofs.SymbolLaws.{board-paced}
 use Rattle.board.specs.Term.{stands, given, lineOf, onFields, JudgedAs, Term3}
 
 -- the first of some numbers and the others
@@ -52,7 +54,7 @@ given-more mine ls l = decoders.answers-append mine none ls (l ∷ []) ∙ unfol
 line-is : (l : Line) (chars : List ℕ) → chars ≡ l .chars → l .more ≡ false → l ≡ lineOf chars
 line-is l chars e m = rw (e, ← m) refl
 
-module _ (b : Plain) (is : decoder b ≡ freshDecoder (b .station)) (ws : List (List Float))
+module _ (b : Plain) (is : decoder b ≡ freshDecoder (b .station)) (ws : List (List Float)) (pace : KeepsPace b ws)
     (errors : rateRefused (b .receiver .resampler .src) ≡ false → CountsAll (badStopsGiven (answersAll b ws)) (afterAll b ws .receiver .inner .deframer .errors)) where
   abbrev station : ℕ
   station = b .station
@@ -125,6 +127,7 @@ module _ (b : Plain) (is : decoder b ≡ freshDecoder (b .station)) (ws : List (
       record {
         board = refl;
         answers = refl;
+        paced = pace;
         lines = lines-heard;
         unbroken = unbroken-at;
         voided = voided-at;
@@ -158,5 +161,5 @@ fresh-rate rate station role = refl
 pub third : (rate station : ℕ) (role : Role) (ws : List (List Float))
     → Term3 (fresh rate station role) ws (afterAll (fresh rate station role) ws) (answersAll (fresh rate station role) ws)
 third rate station role ws =
-    term (fresh rate station role) (is-fresh rate station role) ws
+    term (fresh rate station role) (is-fresh rate station role) ws (board-paced rate station role ws)
     (λ ok. fresh-errors rate station role (subst (λ (r : ℕ). rateRefused r ≡ false) (fresh-rate rate station role) ok) ws)

@@ -18,6 +18,7 @@ use Rattle.tide.specs.Judge.{Reading, Shown, none, shows, Verdict, judge, settl
 use Rattle.tide.specs.Decoder.{Line, Decoder, IsAnswer, countOf, verdict, shownOn, answersOn, times, goods, AtMost, Best}
 use Rattle.tide.specs.Lines.{linesOf, Unbroken, behind0A}
 use Rattle.board.specs.Plain.{Plain, decoder, Answer, afterAll, heardAll, linesAll, verdictsAll, answersAll, endedIn, badStopsGiven}
+use Rattle.board.specs.Symbols.{KeepsPace}
 
 -- ---- the lines judged, in order
 -- what a board of station `mine` shows when it has judged these lines since fresh, and the answers that it gave them
@@ -56,6 +57,8 @@ pub record Term3 (fresh : Plain) (ws : List (List Float)) (b : Plain) (said : Li
   pub board : b ≡ afterAll fresh ws
   -- every answer is the plain board's
   pub answers : said ≡ answersAll fresh ws
+  -- "neighbouring boundaries then lie 21 to 33 steps apart, and the first comes within 32 steps of the ring filling"
+  pub paced : KeepsPace fresh ws
   -- the lines judged are those of all that was heard in the accepted writes, however these cut it: what stands between one 0A and the next is
   -- a line, "its first 64 characters and whether there were more", unless the carrier was lost in it
   pub lines : linesAll fresh ws ≡ linesOf (heardAll fresh ws)

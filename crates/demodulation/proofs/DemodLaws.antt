@@ -200,7 +200,7 @@ two-of : (was : Bool) (c : Demodulator) (carrier : CarrierDetector) (latch : Lat
     → length (happensAt was (finished c carrier latch soft .state .carrier .detected) (finished c carrier latch soft .event) (finished c carrier latch soft .heard)) ≤ 2
 unfolding finished
 two-of was c carrier latch soft =
-    two-at (c .deframer) was (carrier .detected) (ticked (c .timing) soft .boundary) soft (eventOf (c .latch .qualified) (latch .qualified))
+    two-at (c .deframer) was (carrier .detected) (ticked (c .kind) (c .timing) soft .boundary) soft (eventOf (c .latch .qualified) (latch .qualified))
 
 pub step-two : (d : Demodulator) (s : Float) → length (happens d (stepOf d s)) ≤ 2
 unfolding fed
@@ -313,7 +313,7 @@ step-bits d s bare = go (fed d s .corr .filled)
     kept k was up boundary e = rw e (slice-bits (d .deframer) (o .soft) boundary up)
 
     go : (f : Bool) → Sliced (d .deframer)
-        (if f then slicedBits (ticked (d .timing) (o .soft) .boundary) (updated (d .carrier) (o .energy) .detected) (o .soft) else [])
+        (if f then slicedBits (ticked (d .kind) (d .timing) (o .soft) .boundary) (updated (d .carrier) (o .energy) .detected) (o .soft) else [])
         ((if f then decoded (fed d s) else record { state = fed d s; heard = Waiting; event = Nothing }) .state .deframer)
         (bytesOf ((if f then decoded (fed d s) else record { state = fed d s; heard = Waiting; event = Nothing }) .heard))
         (badStopsOf ((if f then decoded (fed d s) else record { state = fed d s; heard = Waiting; event = Nothing }) .heard)) 1

@@ -36,19 +36,19 @@ unfilled c e = go (ltb (c .pos + 1) places) refl e
     go false p q = absurd (true≢false q)
 
 -- before the last place the rings stay open
-stays-open : (c : Correlator) → c .filled ≡ false → c .pos + 1 < places → advanced c .filled ≡ false
+pub stays-open : (c : Correlator) → c .filled ≡ false → c .pos + 1 < places → advanced c .filled ≡ false
 unfolding advanced
 stays-open c e h = rw (lt-ltb (c .pos + 1) places h) e
 
-next-place : (c : Correlator) → c .pos + 1 < places → advanced c .pos ≡ c .pos + 1
+pub next-place : (c : Correlator) → c .pos + 1 < places → advanced c .pos ≡ c .pos + 1
 unfolding advanced
 next-place c h = rw (lt-ltb (c .pos + 1) places h) refl
 
-fills : (c : Correlator) → places ≤ c .pos + 1 → advanced c .filled ≡ true
+pub fills : (c : Correlator) → places ≤ c .pos + 1 → advanced c .filled ≡ true
 unfolding advanced
 fills c h = rw (le-ltb (c .pos + 1) places h) refl
 
-stays-filled : (c : Correlator) → c .filled ≡ true → advanced c .filled ≡ true
+pub stays-filled : (c : Correlator) → c .filled ≡ true → advanced c .filled ≡ true
 unfolding advanced
 stays-filled c e = go (ltb (c .pos + 1) places)
   where

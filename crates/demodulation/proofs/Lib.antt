@@ -4,6 +4,8 @@ pub mod SummingSteps
 pub mod CarrierLaws
 pub mod TimingLaws
 pub mod DemodLaws
-pub mod KindLaws
 pub mod FreshLaws
+pub mod PaceLaws
+pub mod SymbolLaws
+pub mod KindLaws
 mod Turns

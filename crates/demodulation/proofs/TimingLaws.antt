@@ -1,6 +1,6 @@
 -- Symbol timing and the slicer: where a boundary is, what the phase is behind it, and which bit the deframer gets. Assumes nothing.
-use mathlib.Core.Path.{_≡_, refl, sym, ap, _∙_}
-use mathlib.Core.Bool.{Bool, true, false, _&&_, true≢false}
+use mathlib.Core.Path.{_≡_, refl, sym, _∙_}
+use mathlib.Core.Bool.{Bool, true, false, _&&_}
 use mathlib.Core.List.{append-nil}
 use native.Mathlib.Nat.{add-zero}
 use native.Mathlib.Omega.{arith}
@@ -11,14 +11,17 @@ use Rattle.framing.specs.Frame.{bytesOf, badStopsOf, Deframed, waiting, pushBit
 use Rattle.framing.specs.declared.frame.Deframer.{Deframer}
 use Rattle.demodulation.specs.Timing.{timing, nextPhase, crossed, residueOf, bounded, ticked, sliced, slicedBits}
 use Rattle.demodulation.specs.Demod.{Sliced}
+use Rattle.demodulation.specs.declared.kind.Kind.{Kind}
 use Rattle.demodulation.specs.declared.timing.Timing.{Timing}
-use Rattle.demodulation.specs.declared.timing.Ticked.{Ticked}
 
 -- ---- timing
 module _ (t : Timing) (soft : Float) where
-  crossed-phase : crossed t soft .«sym_phase» ≡ nextPhase t
+  by-crossing : (P : Timing → Type 0)
+      → P (timing (nextPhase t) (t .«sym_inc») (t .«last_sym») soft true)
+      → P (timing (nextPhase t) (t .«sym_inc») (t .«last_sym») (t .«mid_sym») (t .«have_mid»))
+      → P (crossed t soft)
   unfolding crossed
-  crossed-phase = go ((t .«sym_phase» <ᶠ half64) && (half64 ≤ᶠ nextPhase t))
+  by-crossing P p q = go ((t .«sym_phase» <ᶠ half64) && (half64 ≤ᶠ nextPhase t))
     where
       turns : Bool → Timing
       turns b =
@@ -26,30 +29,38 @@ module _ (t : Timing) (soft : Float) where
           then timing (nextPhase t) (t .«sym_inc») (t .«last_sym») soft true
           else timing (nextPhase t) (t .«sym_inc») (t .«last_sym») (t .«mid_sym») (t .«have_mid»)
 
-      go : (b : Bool) → turns b .«sym_phase» ≡ nextPhase t
-      go true = refl
-      go false = refl
+      go : (b : Bool) → P (turns b)
+      go true = p
+      go false = q
 
-  abbrev ends : Bool → Ticked
-  ends b = if b then record { state = bounded (crossed t soft) soft; boundary = true } else record { state = crossed t soft; boundary = false }
+  pub crossed-phase : crossed t soft .«sym_phase» ≡ nextPhase t
+  crossed-phase = by-crossing (λ x. x .«sym_phase» ≡ nextPhase t) refl refl
+
+  pub crossed-inc : crossed t soft .«sym_inc» ≡ t .«sym_inc»
+  crossed-inc = by-crossing (λ x. x .«sym_inc» ≡ t .«sym_inc») refl refl
+
+-- for a bare receiver and for a board
+module _ (kind : Kind) (t : Timing) (soft : Float) where
+  pub tick-ends : one64 ≤ᶠ nextPhase t ≡ true → ticked kind t soft ≡ record { state = bounded kind (crossed t soft) soft; boundary = true }
+  unfolding ticked
+  tick-ends e = rw (crossed-phase t soft, e)
+
+  pub tick-goes-on : one64 ≤ᶠ nextPhase t ≡ false → ticked kind t soft ≡ record { state = crossed t soft; boundary = false }
+  unfolding ticked
+  tick-goes-on e = rw (crossed-phase t soft, e)
 
   -- a boundary is where the phase reaches 1.0: "At most one boundary a sample"
-  pub boundary-at : ticked t soft .boundary ≡ one64 ≤ᶠ nextPhase t
-  unfolding ticked
-  boundary-at = go (one64 ≤ᶠ crossed t soft .«sym_phase») ∙ ap (λ (p : Float). one64 ≤ᶠ p) crossed-phase
+  pub boundary-at : ticked kind t soft .boundary ≡ one64 ≤ᶠ nextPhase t
+  boundary-at = go (one64 ≤ᶠ nextPhase t) refl
     where
-      go : (b : Bool) → ends b .boundary ≡ b
-      go true = refl
-      go false = refl
+      go : (b : Bool) → one64 ≤ᶠ nextPhase t ≡ b → ticked kind t soft .boundary ≡ b
+      go true e = rw (tick-ends e)
+      go false e = rw (tick-goes-on e)
 
-  -- the phase behind it: one symbol less, and moved by the error as that is, also below 0.0
-  pub phase-behind : ticked t soft .boundary ≡ true → ticked t soft .state .«sym_phase» ≡ residueOf (crossed t soft) soft
-  unfolding ticked bounded
-  phase-behind = go (one64 ≤ᶠ crossed t soft .«sym_phase»)
-    where
-      go : (b : Bool) → ends b .boundary ≡ true → ends b .state .«sym_phase» ≡ residueOf (crossed t soft) soft
-      go true e = refl
-      go false e = absurd (true≢false (sym e))
+  -- the phase behind it: one symbol less, and moved by the error as that is, or is limited, also below 0.0
+  pub phase-behind : ticked kind t soft .boundary ≡ true → ticked kind t soft .state .«sym_phase» ≡ residueOf kind (crossed t soft) soft
+  unfolding bounded
+  phase-behind e = rw (tick-ends (sym boundary-at ∙ e))
 
 -- ---- the slicer
 module _ (d : Deframer) (soft : Float) where

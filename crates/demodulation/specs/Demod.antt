@@ -97,7 +97,7 @@ keptBy ForBoard was up d = droppedAt was up d
 -- "event; timing; slice", with the detector and the latch as this sample leaves them
 unfoldable pub finished : Demodulator → CarrierDetector → Latch → Float → Step
 finished d carrier latch soft =
-    let t = ticked (d .timing) soft in
+    let t = ticked (d .kind) (d .timing) soft in
     let bit = sliced (d .deframer) (t .boundary) (carrier .detected) soft in
     record {
       state =
@@ -211,7 +211,7 @@ unfoldable pub bitsAt : Demodulator → Float → List Bool
 bitsAt d s =
     let o = correlated (fed d s .rings) in
     if fed d s .corr .filled
-    then slicedBits (ticked (fed d s .timing) (o .soft) .boundary) (updated (fed d s .carrier) (o .energy) .detected) (o .soft)
+    then slicedBits (ticked (d .kind) (fed d s .timing) (o .soft) .boundary) (updated (fed d s .carrier) (o .energy) .detected) (o .soft)
     else []
 
 -- the bits that these samples are sliced to, in order

@@ -181,7 +181,8 @@ impl Core {
         let timing = self.timing;
         let deframer = self.deframer;
         let event = event_of(self.latch.qualified, latch.qualified);
-        let t = timing.tick(soft);
+        let kind = self.kind;
+        let t = timing.tick(kind, soft);
         let ticked = t.state;
         let pushed = slice(deframer, t.boundary, carrier.detected, soft);
         let kind = self.kind;

@@ -5,8 +5,8 @@
 //   carrier      the detector, and dominance                  specs/Carrier.antt
 //   waves        the two tones' cosines and sines             specs/Correlation.antt
 //   correlator   each sample against the two tones            specs/Correlation.antt, Summing.antt
-//   timing       where a symbol ends, and its bit             specs/Timing.antt
-//   kind         bare, or for a board
+//   timing       where a symbol ends, and its bit             specs/Timing.antt, Pace.antt, Symbols.antt
+//   kind         bare, or for a board                         specs/Timing.antt: limitedBy
 //   demod        one sample                                   specs/Demod.antt, DemodRep.antt
 //   hearing      a list of samples, into lent codes           specs/Demod.antt, Listening.antt
 mod carrier;

@@ -1,4 +1,5 @@
 // Symbol timing and the slicer.
+use crate::kind::Kind;
 use bell103::samples_per_symbol;
 use framing::frame::Deframer;
 use framing::frame::Heard;
@@ -6,7 +7,7 @@ use framing::frame::Pushed;
 use numeric::compare::absolute;
 ghost use mathlib.Core.Path.{_≡_};
 ghost use Rattle.framing.specs.Frame.{deframed};
-ghost use Rattle.demodulation.specs.Timing.{errorOf, movedBy, crossed, bounded, ticked, freshTiming, sliced};
+ghost use Rattle.demodulation.specs.Timing.{errorOf, heldError, limitedBy, movedBy, crossed, bounded, ticked, freshTiming, sliced};
 
 const GARDNER_GAIN: f64 = 0.15;
 
@@ -25,12 +26,35 @@ pub struct Ticked {
     pub boundary: bool,
 }
 
-// The Gardner error. The level divides twice, so that the loop's gain does not depend on it; nothing else limits the error.
+// The Gardner error. The level divides twice, so that the loop's gain does not depend on it; nothing else limits a bare receiver's error.
 fn error_of(soft: f64, last: f64, mid: f64) -> f64
     ensures { λ r. ⌜ r ≡ errorOf soft last mid ⌝ }
 {
     let mag = absolute(soft) + absolute(last) + 1e-9;
     (soft - last) * mid / (mag * mag)
+}
+
+// From -1.0 to 1.0. A NaN is not at most 1.0, so it falls to that end.
+fn held_error(e: f64) -> f64
+    ensures { λ r. ⌜ r ≡ heldError e ⌝ }
+{
+    if e <= 1.0 {
+        if e >= -1.0 {
+            return e;
+        }
+        return -1.0;
+    }
+    1.0
+}
+
+// A board's error is held, so that no click can move its next boundary far away.
+fn limited(kind: Kind, e: f64) -> f64
+    ensures { λ r. ⌜ r ≡ limitedBy kind e ⌝ }
+{
+    match kind {
+        Kind::Bare => e,
+        Kind::ForBoard => held_error(e),
+    }
 }
 
 // Late pulls the next boundary forward. A residue below 0.0 stays: it only takes more samples to the next boundary.
@@ -70,14 +94,15 @@ impl Timing {
     }
 
     // A symbol's end; the next one begins without a midpoint.
-    fn symbol_boundary(mut self, soft: f64) -> Timing
-        ensures { λ r. ⌜ r ≡ bounded self soft ⌝ }
+    fn symbol_boundary(mut self, kind: Kind, soft: f64) -> Timing
+        ensures { λ r. ⌜ r ≡ bounded kind self soft ⌝ }
     {
         let last = self.last_sym;
         let residue = self.sym_phase - 1.0;
         self.last_sym = soft;
         if self.have_mid {
-            self.sym_phase = moved(residue, error_of(soft, last, self.mid_sym));
+            let e = error_of(soft, last, self.mid_sym);
+            self.sym_phase = moved(residue, limited(kind, e));
             self.have_mid = false;
             return self;
         }
@@ -86,12 +111,12 @@ impl Timing {
     }
 
     // At most one boundary a sample.
-    pub(crate) fn tick(self, soft: f64) -> Ticked
-        ensures { λ r. ⌜ r ≡ ticked self soft ⌝ }
+    pub(crate) fn tick(self, kind: Kind, soft: f64) -> Ticked
+        ensures { λ r. ⌜ r ≡ ticked kind self soft ⌝ }
     {
         let t = self.cross(soft);
         if t.sym_phase >= 1.0 {
-            let state = t.symbol_boundary(soft);
+            let state = t.symbol_boundary(kind, soft);
             return Ticked {
                 state,
                 boundary: true,

@@ -7,3 +7,4 @@ pub mod QueueLaws
 pub mod RxLaws
 pub mod RxCalls
 pub mod ErrorLaws
+pub mod SymbolLaws

@@ -3,6 +3,7 @@ pub mod Samples
 pub mod Hear
 pub mod Listener
 pub mod ListenerRep
+pub mod Symbols
 pub mod Queue
 pub mod Write
 pub mod Rx

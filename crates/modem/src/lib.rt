@@ -3,7 +3,7 @@
 //   samples   the samples of a call, tested and widened     specs/Samples.antt
 //   write     the checks of a write                         specs/Write.antt
 //   hear      a call's samples, resampled and heard         specs/Hear.antt
-//   listener  what hears, for the receiver and the board    specs/Listener.antt, ListenerRep.antt
+//   listener  what hears, for the receiver and the board    specs/Listener.antt, ListenerRep.antt, Symbols.antt
 //   queue     bytes heard and carrier events that wait      specs/Queue.antt
 //   rx        the receiver                                  specs/Rx.antt, RxRep.antt
 mod hear;

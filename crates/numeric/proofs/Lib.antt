@@ -1,6 +1,8 @@
--- Laws that other crates cite: of floats and their bounds, of counts, of sines, of lists, tests and loops; and values worked out.
+-- Laws that other crates cite: of floats, their bounds and intervals, of counts, of sines, of lists, tests and loops; and values worked out.
 pub mod Whole
 pub mod BoundLaws
+pub mod Signed
+pub mod IntervalLaws
 pub mod RoundingLaws
 pub mod CountLaws
 pub mod SinesLaws

@@ -36,18 +36,32 @@ nonNegative-value (inf s) a c h = absurd h
 nonNegative-value (fin true m e) a c h = absurd (true≢false (h .0))
 nonNegative-value (fin false m e) a c h = tt
 
-units-noMinus : (f : Format) (q k : ℕ) → T (noMinus (units f false q k))
+-- a number, or an infinity, with no minus sign
+abbrev pub upward : Float → Bool
+upward nan = false
+upward (inf s) = not s
+upward (fin s m e) = not s
+
+units-upward : (f : Format) (q k : ℕ) → T (upward (units f false q k))
 unfolding units odd
-units-noMinus f q k = go (ltb (q * 2 ^ k) (2 ^ (low f + suc (emax f)))) q
+units-upward f q k = go (ltb (q * 2 ^ k) (2 ^ (low f + suc (emax f)))) q
   where
-    go : (t : Bool) (q : ℕ) → T (noMinus (cond t (odd (suc (prec f)) false q k (low f)) (inf false)))
+    go : (t : Bool) (q : ℕ) → T (upward (cond t (odd (suc (prec f)) false q k (low f)) (inf false)))
     go true zero = tt
     go true (suc q) = tt
     go false q = tt
 
 -- a fraction is rounded to a number with no minus sign, or to the infinity with none
+pub round-upward : (f : Format) (a b : ℕ) → T (upward (round f false a b))
+round-upward f a b = rw (round-is f false a b) (units-upward f _ _)
+
+upward-noMinus : (x : Float) → T (upward x) → T (noMinus x)
+upward-noMinus nan p = tt
+upward-noMinus (inf s) p = p
+upward-noMinus (fin s m e) p = p
+
 pub round-noMinus : (f : Format) (a b : ℕ) → T (noMinus (round f false a b))
-round-noMinus f a b = rw (round-is f false a b) (units-noMinus f _ _)
+round-noMinus f a b = upward-noMinus (round f false a b) (round-upward f a b)
 
 -- what is not different from itself is a number
 pub not-nan : (v : Float) → ne v v ≡ false → T (not (isNan v))
