@@ -9,7 +9,7 @@ use lib.ListN.{length}
 use lib.Ieee.{Float}
 use Rattle.numeric.specs.If.{if_then_else_}
 use Rattle.refusal.specs.Refusals.{numberOf, acceptanceOf, replyOf, first, rateRefused}
-use Rattle.refusal.proofs.RefusalLaws.{first-yes, first-no}
+use Rattle.refusal.proofs.RefusalLaws.{first-yes, first-no, number-some, refused-by}
 use Rattle.framing.specs.Framing as framing
 use Rattle.happenings.specs.Happening.{bytesIn, badStopsIn, TallyOf}
 use Rattle.happenings.specs.Codes.{heardIn}
@@ -18,7 +18,7 @@ use Rattle.happenings.specs.declared.happening.Tally.{Tally}
 use Rattle.modem.specs.Listener as rx
 use Rattle.modem.specs.ListenerRep.{demodOf, ListenerSound, Opens, Takes, Hears}
 use Rattle.modem.proofs.RxLaws.{heard-completed, fresh-idle}
-use Rattle.modem.proofs.RxCalls.{listener-listens, number-some, refused-by}
+use Rattle.modem.proofs.RxCalls.{listener-listens}
 use Rattle.bell103.specs.declared.Role.{Role}
 use Rattle.demodulation.specs.declared.kind.Kind.the-variants as kind
 use Rattle.refusal.specs.declared.Refusal.{Refusal}

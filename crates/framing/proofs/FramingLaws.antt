@@ -111,11 +111,14 @@ framed-is b [] l t =
     (refl, same-bits l (frameOf b) (both-left (sameBits l (frameOf b)) (ltb b 256) t), ltb→lt b 256 (both-right (sameBits l (frameOf b)) (ltb b 256) t))
 framed-is b (c ∷ bs) l t = absurd t
 
--- ten bits from idle that yield a byte yield no other, and are that byte's frame
-pub heard-frame : (d : Deframer) → Idle d → (l : List Bool) → length l ≡ 10 → (b : ℕ) (bs : List ℕ) → heard d l ≡ b ∷ bs → (bs ≡ []) × (l ≡ frameOf b) × (b < 256)
+-- ten bits from idle that yield a byte yield no other, are that byte's frame, and hold no bad stop
+pub heard-frame : (d : Deframer) → Idle d → (l : List Bool) → length l ≡ 10 → (b : ℕ) (bs : List ℕ) → heard d l ≡ b ∷ bs
+    → (bs ≡ []) × (l ≡ frameOf b) × (b < 256) × (badStops d l ≡ 0)
 heard-frame d p l n b bs e =
+    let f =
     framed-is b bs l
-    (subst (λ (r : List ℕ). T (framed r l)) (ap (λ (x : Deframer). heard x l) (sym (idle-is d p)) ∙ e) (ten-bits (d .«bit_count») (d .acc) (d .errors) l n))
+    (subst (λ (r : List ℕ). T (framed r l)) (ap (λ (x : Deframer). heard x l) (sym (idle-is d p)) ∙ e) (ten-bits (d .«bit_count») (d .acc) (d .errors) l n)) in
+    (f .0, f .1, f .2, ap (badStops d) (f .1) ∙ frame-heard d p b (f .2) .no-bad-stop)
 
 pub bad-stop : (d : Deframer) → AtStop d → SpaceAtStop d
 unfolding heard badStops after stopBit badStop

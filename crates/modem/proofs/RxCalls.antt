@@ -1,5 +1,5 @@
 -- What the receiver's and the listener's calls come to, for those who make them. Assumes nothing.
-use Prim.Native.Nat.{ℕ, zero, suc, _+_, _≤_}
+use Prim.Native.Nat.{ℕ, _+_, _≤_}
 use mathlib.Core.Path.{_≡_, refl, sym, _∙_}
 use mathlib.Core.Bool.{Bool, true, false, not}
 use mathlib.Core.List.{List, []}
@@ -8,7 +8,7 @@ use lib.Dec.{ltb}
 use lib.ListN.{length}
 use lib.Ieee.{Float}
 use Rattle.numeric.specs.If.{if_then_else_}
-use Rattle.refusal.specs.Refusals.{dspRate, given, refused, first, numberOf, acceptanceOf, replyOf, rateRefused}
+use Rattle.refusal.specs.Refusals.{dspRate, given, refused, first, replyOf, rateRefused}
 use Rattle.refusal.proofs.RefusalLaws.{first-yes, first-no}
 use Rattle.modem.specs.Samples.{allInRange}
 use Rattle.modem.specs.Queue.{mostBytes}
@@ -20,9 +20,6 @@ use Rattle.modem.specs.Rx.{receiver, freshReceiver, made, newOf}
 use Rattle.modem.specs.Write.{refusedBy}
 use Rattle.modem.specs.RxRep.{receiverOf, RxSound}
 use Rattle.bell103.specs.declared.Role.{Role}
-use Rattle.refusal.specs.declared.Refusal.{Refusal}
-use Rattle.refusal.specs.declared.Refusal.the-variants as refusal
-use Rattle.refusal.specs.declared.Acceptance.the-variants as acceptance
 use Rattle.demodulation.specs.declared.kind.Kind.the-variants.{Bare}
 use Rattle.modem.specs.declared.listener.Listener.{Listener}
 use Rattle.modem.specs.declared.rx.Rx.{Rx}
@@ -83,23 +80,3 @@ never-waits xs n e = by (ltb 1024 (length xs)) (not (allInRange xs)) (ltb 429496
     by false true r e = let a = sym (first-no 3 (first true 4 (first r 31 0)) ∙ first-yes 4 (first r 31 0)) ∙ e in omega arith
     by false false true e = let a = sym (first-no 3 (first false 4 (first true 31 0)) ∙ first-no 4 (first true 31 0) ∙ first-yes 31 0) ∙ e in omega arith
     by false false false e = let a = sym (first-no 3 (first false 4 (first false 31 0)) ∙ first-no 4 (first false 31 0) ∙ first-no 31 0) ∙ e in omega arith
-
--- ---- a refusal's number
--- it is never 0
-pub number-some : (r : Refusal) → numberOf r ≡ 0 → ⊥
-number-some refusal.Rate e = omega arith
-number-some refusal.Station e = omega arith
-number-some refusal.TooManySamples e = omega arith
-number-some refusal.BadSample e = omega arith
-number-some refusal.OutputTooShort e = omega arith
-number-some refusal.Amplitude e = omega arith
-number-some refusal.TooManyBits e = omega arith
-number-some refusal.OutOfSamples e = omega arith
-number-some refusal.BytesWait e = omega arith
-number-some refusal.BitsWait e = omega arith
-number-some refusal.NoSettings e = omega arith
-number-some refusal.StoreFull e = omega arith
-
-pub refused-by : (why : Refusal) (k : ℕ) → acceptanceOf (acceptance.Refused why) ≡ replyOf k → k ≡ numberOf why
-refused-by why zero e = let y : _≡_ {A = ℕ} 0 1 = cc in absurd (omega arith)
-refused-by why (suc k) e = let n : numberOf why ≡ suc k = cc in sym n

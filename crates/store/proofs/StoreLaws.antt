@@ -11,6 +11,7 @@ use native.Mathlib.Omega.{arith}
 use borrow.Author.Tests.{ltb-false, eqb-true, eqb-false, eq-eqb, ne-eqb, lt-ltb, le-ltb}
 use Rattle.numeric.specs.If.{if_then_else_}
 use Rattle.refusal.specs.Refusals.{given, refused, first, rateRefused}
+use Rattle.refusal.proofs.RefusalLaws.{first-zero}
 use Rattle.hexadecimal.specs.Hex.{hexLine}
 use Rattle.hexadecimal.proofs.HexLaws.{length-hexLine}
 use Rattle.bell103.specs.declared.Role.{Role}
@@ -80,11 +81,6 @@ module _ (b f : List ℕ) (other : OtherVersion f) (room : length (hexLine f) + 
   other-torn k h = any-torn b (hexLine f) (hexLine-no-end f) room k h
 
 -- ---- a write
-first-zero : (t : Bool) (n r : ℕ) → first t (suc n) r ≡ 0 → (t ≡ false) × (r ≡ 0)
-unfolding first
-first-zero true n r e = absurd (omega arith)
-first-zero false n r e = (refl, e)
-
 -- a write is accepted where its settings are admitted and there is room
 pub accepted : (b : List ℕ) (s : Settings) → Admitted s → 15 ≤ length (unusedOf b) → writeNumber b (s .rate) (s .station) ≡ 0
 unfolding writeNumber first

@@ -11,9 +11,10 @@ use native.Mathlib.Nat.{zero-add}
 use Rattle.tide.specs.Judge.{Reading, Shown, settle, damageOf, Passes, ofFields, judgedOf, ofLine}
 use Rattle.numeric.specs.If.{if_then_else_}
 use Rattle.refusal.specs.Refusals.{first}
+use Rattle.refusal.proofs.RefusalLaws.{first-zero}
 use Rattle.hexadecimal.specs.Hex.{unhex, allHex, total}
 use Rattle.tide.specs.Frame.{stampOf, ageOf, misfit}
-use Rattle.tide.proofs.JudgeLaws.{first-zero, not-false}
+use Rattle.tide.proofs.JudgeLaws.{not-false}
 use Rattle.hexadecimal.proofs.HexLaws.{or-false}
 
 -- neither 11 nor 12 nor 13 applies

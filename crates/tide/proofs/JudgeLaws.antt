@@ -11,6 +11,7 @@ use native.Mathlib.Omega.{arith}
 use borrow.Author.Tests.{ltb-false, eqb-true, eqb-false, lt-ltb, le-ltb, eq-eqb, ne-eqb}
 use Rattle.numeric.specs.If.{if_then_else_}
 use Rattle.refusal.specs.Refusals.{first}
+use Rattle.refusal.proofs.RefusalLaws.{first-zero}
 use Rattle.hexadecimal.specs.Hex.{allHex, unhex, hexLine, total}
 use Rattle.tide.specs.Frame.{versionOf, readerOf, saidLength, stationOf, stampOf, ageOf, levelOf, signed, waterOf, Intact, Writer, Rules, bitsOf, frameOf, lineBy}
 use Rattle.tide.specs.Judge.{damageOf, Passes, Passed, Readable, Past17, ofFields, judgedOf, ofLine, readingOf, Shown, shows, Verdict, later, settle, judge}
@@ -90,11 +91,6 @@ pub fields-alike : (v w : Writer) → Rules v → Rules w → v .reader ≡ 1 �
 fields-alike v w i j e h s t a l mine r = rw (fields v i mine r e, fields w j mine r h, s, t, a, l) refl
 
 -- ---- what a line that passes 11 to 16 says
-pub first-zero : (t : Bool) (n r : ℕ) → first t (suc n) r ≡ 0 → (t ≡ false) × (r ≡ 0)
-unfolding first
-first-zero true n r e = absurd (omega arith)
-first-zero false n r e = (refl, e)
-
 pub not-false : (a : Bool) → not a ≡ false → a ≡ true
 not-false true e = refl
 not-false false e = sym e
