@@ -2,8 +2,9 @@
 # Has the port hear another implementation of Bell 103, and be heard by it.
 # minimodem renders a text, sox resamples it, and the program `replay` hears it.
 # Every byte must be there, and nothing else; and the original must answer each
-# write alike. Then the program `send` sends the text at each rate, and minimodem
-# must hear it, behind the training character and the line end of a call.
+# write alike. Then the program `send` sends the text at each rate, and from the
+# table, and minimodem must hear it, behind the training character and the line end
+# of a call.
 # Needs the Debian packages minimodem, sox and xxd, cargo, and in the root
 # `rt check replay send` and `rt staticlib ffi` run before. Takes about a minute;
 # minimodem sends its idle carrier in real time.
@@ -39,14 +40,14 @@ hear() {
     fi
 }
 
-# sent MARK SPACE RATE ROLE
+# sent MARK SPACE RATE ROLE [table]
 sent() {
-    "$send" "$4" "$3" <"$folder/text" >"$folder/sent.wav" || exit 2
+    "$send" "$4" "$3" ${5:+"$5"} <"$folder/text" >"$folder/sent.wav" || exit 2
     minimodem --rx --quiet --mark "$1" --space "$2" --file "$folder/sent.wav" 300 >"$folder/bytes"
     if cmp -s "$folder/call" "$folder/bytes"; then
-        echo "$1/$2, sent at $3: all $(wc -c <"$folder/call") bytes heard by minimodem"
+        echo "$1/$2, sent at $3${5:+ from the $5}: all $(wc -c <"$folder/call") bytes heard by minimodem"
     else
-        echo "$1/$2, sent at $3: NOT AS SENT"
+        echo "$1/$2, sent at $3${5:+ from the $5}: NOT AS SENT"
         failed=$((failed + 1))
     fi
 }
@@ -66,6 +67,7 @@ for tones in "1270 1070 1 originate" "2225 2025 0 answer"; do
     for rate in 8000 8001 9999 11025 16000 22050 32000 44100 47999 48000; do
         sent "$1" "$2" $rate "$4"
     done
+    sent "$1" "$2" 8000 "$4" table
 done
 echo "$failed not as sent"
 [ $failed -eq 0 ]

@@ -208,6 +208,36 @@ size_t morkhetta_sender_state(
     double *state, size_t state_len
 );
 
+/* A fresh sender that has no floats, at 8,000 a second, for the role 0 (the end
+ * that dials) or any other number (the end that picks up), and the calls of the
+ * script, two numbers for each, its kind and n (a last one that makes no whole
+ * call is passed over):
+ *
+ *   0  write of the next n bytes of the data, or of what is left of them
+ *   1  write_idle_mark of n bit periods
+ *   any other number: read into the next n places of the samples, or what is left
+ *      of them
+ *
+ * A sample is a whole number from -32,767 to 32,767, an entry of a table of 1,600
+ * places of the sine; a host that wants floats divides by 32,768. Each call is
+ * answered by three numbers:
+ *
+ *   the number of the refusal, 0 where the call is accepted: of a read 3 and 31,
+ *     of the others 33, as in morkhetta_send
+ *   of a read the number of places filled; 0 of other calls and of a refused one
+ *   1 where bits wait after the call, else 0
+ *
+ * Refused calls, passed-over bytes and places, and the number returned as in
+ * morkhetta_send.
+ */
+size_t morkhetta_table_send(
+    uint32_t role,
+    const uint8_t *data, size_t data_len,
+    const uint64_t *script, size_t script_len,
+    int32_t *samples, size_t samples_len,
+    uint64_t *answers, size_t answers_len
+);
+
 /* The state of a receiver behind all calls of a script, for comparisons bit for
  * bit: its 909 numbers at the front of `state`, the rest of which is as it was.
  * The calls are those of morkhetta_receive, with room for 512 bytes and 64

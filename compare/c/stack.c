@@ -17,6 +17,7 @@ static float samples[SAMPLES];
 static double wide[SAMPLES], output[8 * SAMPLES], state[20000];
 static uint8_t data[4096], bytes[4096], events[4096];
 static uint32_t lengths[CALLS], script[3 * CALLS], resampling[2 * CALLS];
+static int32_t places[SAMPLES];
 static uint64_t sending[2 * CALLS], answers[6 * CALLS], shown[64];
 
 static void *nothing(void *unused)
@@ -64,6 +65,12 @@ static void *transmit(void *unused)
 {
     morkhetta_send(48000, 0, data, 4096, sending, 2 * CALLS, samples, SAMPLES, answers, 3 * CALLS);
     morkhetta_send(8000, 1, data, 4096, sending, 2 * CALLS, samples, SAMPLES, answers, 3 * CALLS);
+    return unused;
+}
+
+static void *transmit_table(void *unused)
+{
+    morkhetta_table_send(0, data, 4096, sending, 2 * CALLS, places, SAMPLES, answers, 3 * CALLS);
     return unused;
 }
 
@@ -116,6 +123,7 @@ int main(void)
         {"morkhetta_resampler_state", resampler_state},
         {"morkhetta_frame_bytes, morkhetta_deframe", deframe},
         {"morkhetta_send", transmit},
+        {"morkhetta_table_send", transmit_table},
         {"morkhetta_sender_state", sender_state},
         {"morkhetta_listen", hear},
     };

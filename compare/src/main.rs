@@ -1,7 +1,7 @@
 //! Holds the port against the Rust original, bit for bit.
 //!
 //!     compare [--cases N] [--seed S] [--only K] [--part P] [--quick]
-//!     speed [resampler|receiver|sender|board]
+//!     speed [resampler|receiver|sender|table|board]
 //!     rates STEP
 //!     digits
 //!     soak SAMPLES LINES [--seed S] [--program P] [--only receiver|sender|loops|lines]
@@ -45,6 +45,7 @@ mod side;
 mod signal;
 mod soak;
 mod speed;
+mod table;
 mod tally;
 mod text;
 mod vectors;
@@ -57,7 +58,7 @@ usage: compare [--cases N] [--seed S]   the same calls to both sides
                [--only K]               receiver case K alone
                [--part P]               the parts alone whose names begin with P
                [--quick]                no search for a smaller case
-       speed [resampler|receiver|sender|board]
+       speed [resampler|receiver|sender|table|board]
                                         the time of both sides
        rates STEP                       the same of the sender in blocks of 64, at each STEPth rate
        digits                           the instructions of the digit test
@@ -82,7 +83,9 @@ fn main() -> ExitCode {
             None => usage(),
         },
         ["speed"] => speed::run(""),
-        ["speed", part @ ("resampler" | "receiver" | "sender" | "board")] => speed::run(part),
+        ["speed", part @ ("resampler" | "receiver" | "sender" | "table" | "board")] => {
+            speed::run(part)
+        }
         ["rates", step] => match step.parse() {
             Ok(step @ 1..=40_000) => speed::rates(step),
             _ => usage(),

@@ -22,6 +22,7 @@ use crate::port;
 use crate::random::Random;
 use crate::side::PORT;
 use crate::signal::{Modulation, Tape, Tones, Wave};
+use crate::table;
 
 /// An odd number, for the median.
 const RUNS: usize = 31;
@@ -52,6 +53,11 @@ pub fn run(part: &str) -> ExitCode {
             for block in [1_024, 441, 64] {
                 sender(rate, block);
             }
+        }
+    }
+    if wanted("table sender") {
+        for block in [1_024, 64] {
+            table_sender(block);
         }
     }
     if wanted("board") {
@@ -183,6 +189,33 @@ fn sender(rate: u32, block: usize) -> f64 {
     );
     std::hint::black_box(waits);
     ratio
+}
+
+/// The sender that has no floats against the original's at 8,000.
+fn table_sender(block: usize) {
+    let count = (8_000 * LINE) as usize;
+    let (mut samples, mut original_samples) = (vec![0; count], vec![0.0; count]);
+    let mut script = vec![WRITE, 60];
+    script.extend([READ, block as u64].repeat(count.div_ceil(block)));
+    let mut answers = vec![0; script.len() / STEP * SENT];
+    let data = [0x35; 60];
+    let mut waits = 0;
+    measure(
+        &format!("table sender, blocks of {block}"),
+        count,
+        &mut || {
+            let mut tx = Tx::new(config(8_000, ORIGINATE));
+            tx.write(&data);
+            for block in original_samples.chunks_mut(block) {
+                tx.read(block);
+                waits += usize::from(tx.pending());
+            }
+        },
+        &mut || {
+            table::port_send(ORIGINATE, &data, &script, &mut samples, &mut answers);
+        },
+    );
+    std::hint::black_box(waits);
 }
 
 /// The board against the original's receiver with the judge of `judge.rs`

@@ -14,7 +14,8 @@ use Rattle.modulation.specs.Tx.{Sender, Adjusted, adjusted, amplitudeOf, Readin
 use Rattle.modulation.specs.TxRep.{senderOf, TxSound}
 use Rattle.modulation.specs.Queueing.{Queueing, queueing, writeOf, idleMarkOf}
 use Rattle.modulation.specs.declared.tx.Tx.{Tx}
-use Rattle.calls.specs.Send.{outcome, unlessRefused, ofQueueing, ofAdjusted, ofReading, ofDuration, amplitudeIn, called}
+use Rattle.calls.specs.Script.{outcome, unlessRefused}
+use Rattle.calls.specs.Send.{ofQueueing, ofAdjusted, ofReading, ofDuration, amplitudeIn, called}
 use Rattle.calls.specs.SendSteps.{outcomeOf}
 use Rattle.calls.specs.declared.send.Called.{Called}
 

@@ -26,10 +26,10 @@ use Rattle.calls.specs.Steps.{Within, Stepped, outcomeAt}
 use Rattle.calls.specs.declared.resample.Place.{Place}
 
 -- ---- calls before calls
-pub after-after : (i j : ℕ) (ys zs : List Float) (us vs : List ℕ) (r : Run) → after i ys us (after j zs vs r) ≡ after (i + j) (ys ++ zs) (us ++ vs) r
+pub after-after : {X : Type 0} (i j : ℕ) (ys zs : List X) (us vs : List ℕ) (r : Run X) → after i ys us (after j zs vs r) ≡ after (i + j) (ys ++ zs) (us ++ vs) r
 after-after i j ys zs us vs r = rw (append-assoc ys, append-assoc us, add-assoc i)
 
-pub after-start : (r : Run) → after 0 [] [] r ≡ r
+pub after-start : {X : Type 0} (r : Run X) → after 0 [] [] r ≡ r
 after-start r = rw (zero-add (r .calls))
 
 -- ---- no more than was written
@@ -98,7 +98,7 @@ module _ (i : ℕ) (ans ans′ : List ℕ) (room : 2 * i + 2 ≤ length ans) whe
     unwritten = rw (step .output, step .written) (drop-behind (take (p .written) out) (gives .out) (p .written) count front)
 
     -- whatever the later calls do
-    called-step : (rest : State → List Float → List Float → List ℕ → Run)
+    called-step : (rest : State → List Float → List Float → List ℕ → Run Float)
         → after (i + 1) (take (q .written) out′) (take (2 * (i + 1)) ans′) (rest (stateOf (q .state)) (drop (q .read) xs) (drop (q .written) out′) (drop (2 * (i + 1)) ans′))
         ≡ after i (take (p .written) out) (take (2 * i) ans)
         (after 1 (take count (gives .out)) (reply (gives .answer)) (rest (gives .state) (drop (samplesFor kind n) (drop (p .read) xs)) (drop count (gives .out)) (drop (2 * i + 2) ans)))
@@ -246,7 +246,7 @@ module _ (src dst : ℕ) (a : Reply Unit) (s : State) (new : made a s ≡ newOf 
       let e : made a s ≡ made (refused 1) (fresh dspRate dspRate) = new ∙ rw t in
       rw t (ap (λ (m : Made). scripted (m .answer) (ran 0 out ans) (m .state)) e)
 
-  pub script-accepted : (r : Run) (last : State) → a ≡ given tt → r ≡ scriptedFrom (callsFor script ans) s xs script out ans → last ≡ stateAfter (callsFor script ans) s xs script out
+  pub script-accepted : (r : Run Float) (last : State) → a ≡ given tt → r ≡ scriptedFrom (callsFor script ans) s xs script out ans → last ≡ stateAfter (callsFor script ans) s xs script out
       → scripted a r last ≡ scriptRun src dst xs script out ans
   unfolding scriptRun
   script-accepted r last is r-is last-is =

@@ -4,6 +4,7 @@ pub mod Calls
 pub mod ReceiverCalls
 pub mod ByKind
 pub mod Steps
+pub mod TableKind
 pub mod Showing
 pub mod Made
 pub mod ReceiveLaws

@@ -4,6 +4,7 @@ use mathlib.Core.Bool.{Bool, not}
 use mathlib.Core.List.{List, [], _∷_, _++_, map}
 use lib.Dec.{eqb}
 use lib.ListN.{length, take, drop}
+use lib.Ieee.{Float}
 use Rattle.framing.specs.Frame.{Deframed, pushBit}
 use Rattle.framing.specs.Framing.{framesOf}
 use Rattle.framing.specs.declared.frame.Deframer.{Deframer}
@@ -18,7 +19,7 @@ abbrev pub framesFor : List ℕ → List ℕ → ℕ
 framesFor bytes bits = min (length bytes) (length bits / 10)
 
 -- "Start space, eight data bits lowest first, stop mark": the frame of each of them, 1 for mark and 0 for space. What stands behind the last stays
-unfoldable pub framesRun : List ℕ → List ℕ → Run
+unfoldable pub framesRun : List ℕ → List ℕ → Run Float
 framesRun bytes bits =
     let n = framesFor bytes bits in
     ran n [] (map bit (framesOf (take n bytes)) ++ drop (10 * n) bits)
@@ -57,7 +58,7 @@ abbrev pub bitsFor : List ℕ → List ℕ → ℕ
 bitsFor bits ans = min (length bits) (length ans / 6)
 
 -- each of them is pushed, from the state d on; what stands behind the last answer stays
-unfoldable pub deframeRun : Deframer → List ℕ → List ℕ → Run
+unfoldable pub deframeRun : Deframer → List ℕ → List ℕ → Run Float
 deframeRun d bits ans =
     let n = bitsFor bits ans in
     ran n [] (pushReplies d (map markIn (take n bits)) ++ drop (6 * n) ans)

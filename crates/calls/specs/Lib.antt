@@ -5,7 +5,11 @@ pub mod Resample
 pub mod Steps
 pub mod Receive
 pub mod ReceiveSteps
+pub mod Script
+pub mod ScriptSteps
 pub mod Send
 pub mod SendSteps
+pub mod Table
+pub mod TableSteps
 pub mod Shown
 pub mod Frames

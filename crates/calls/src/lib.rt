@@ -2,7 +2,8 @@
 //
 //   resample   of the resampler                                    specs/Resample.antt, Steps.antt
 //   receive    of the receiver                                     specs/Receive.antt, ReceiveSteps.antt
-//   send       of the sender                                       specs/Send.antt, SendSteps.antt
+//   send       of the sender                                       specs/Script.antt, ScriptSteps.antt, Send.antt, SendSteps.antt
+//   table      of the sender that has no floats                    specs/Table.antt, TableSteps.antt
 //   frames     framing, and deframing in any state                 specs/Frames.antt
 //   shown      what a board shows, as numbers                      specs/Shown.antt
 //   answers, events, roles: answers, events and roles as numbers   specs/Answers.antt, Roles.antt
@@ -14,6 +15,7 @@ mod resample;
 mod roles;
 mod send;
 mod shown;
+mod table;
 
 pub use answers::number_in;
 pub use frames::deframe_bits;
@@ -30,3 +32,4 @@ pub use send::Sent;
 pub use send::sender_from_fresh;
 pub use send::sent_from_fresh;
 pub use shown::put_board;
+pub use table::table_sent_from_fresh;

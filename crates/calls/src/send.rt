@@ -16,8 +16,10 @@ ghost use Rattle.refusal.specs.Refusals.{acceptanceOf};
 ghost use Rattle.modulation.specs.TxRep.{senderOf, TxSound};
 ghost use Rattle.calls.specs.Answers.{numberIn};
 ghost use Rattle.calls.specs.Resample.{ran};
-ghost use Rattle.calls.specs.Send.{unlessRefused, amplitudeIn, called, bytesFor, placesFor, callsFor, sentFrom, senderAfter, sendRun, sent, senderRun};
-ghost use Rattle.calls.specs.SendSteps.{outcomeOf, Within, Stepped};
+ghost use Rattle.calls.specs.Script.{unlessRefused, bytesFor, callsFor, sentFrom, senderAfter};
+ghost use Rattle.calls.specs.ScriptSteps.{Stepped};
+ghost use Rattle.calls.specs.Send.{amplitudeIn, called, placesFor, sends, sendRun, sent, senderRun};
+ghost use Rattle.calls.specs.SendSteps.{outcomeOf, atOf, Within};
 
 // Kinds of calls: `write`, `write_idle_mark`, `set_amplitude`, `read`; any other is `samples_for_bits`.
 const WRITE: u64 = 0;
@@ -35,7 +37,7 @@ struct Called {
     value: usize,
 }
 
-fn bytes_for(kind: u64, n: u64) -> usize
+pub(crate) fn bytes_for(kind: u64, n: u64) -> usize
     ensures { λ r. ⌜ r ≡ bytesFor kind n ⌝ }
 {
     if kind == WRITE { n as usize } else { 0 }
@@ -58,7 +60,7 @@ fn amplitude_in(n: u64) -> f32
     f32::from_bits(bits as u32)
 }
 
-fn unless_refused(answer: Acceptance, n: usize) -> usize
+pub(crate) fn unless_refused(answer: Acceptance, n: usize) -> usize
     ensures { λ r. ⌜ r ≡ unlessRefused (acceptanceOf answer) n ⌝ }
 {
     match answer {
@@ -127,7 +129,7 @@ fn make_call(tx: Tx, kind: u64, n: u64, bytes: &[u8], part: &mut [f32]) -> Calle
 }
 
 // Writes the three numbers at `at`.
-fn tell_sent(answers: &mut [u64], at: usize, number: u32, value: usize, waits: u32)
+pub(crate) fn tell_sent(answers: &mut [u64], at: usize, number: u32, value: usize, waits: u32)
     requires { ⌜ at + 3 ≤ length (now answers) ⌝ }
     ensures { λ _. ⌜ now (answers .exit) ≡ take at (now (answers .entry)) ++ ((number ∷ value ∷ waits ∷ []) ++ drop (at + 3) (now (answers .entry))) ⌝ }
 {
@@ -155,7 +157,7 @@ fn one_call(
 ) -> Place
     requires { ⌜ Within p (now «data») (now samples) × (at + 3 ≤ length (now answers)) ⌝ }
     ensures { λ r. ⌜
-        Stepped p r kind n (now («data» .entry)) (now (samples .entry)) (now (samples .exit))
+        Stepped sends (atOf p) (atOf r) kind n (now («data» .entry)) (now (samples .entry)) (now (samples .exit))
         (take at (now (answers .entry))) (drop (at + 3) (now (answers .entry))) (now (answers .exit)) ⌝ }
     ensures { λ r. ⌜ Within r (now («data» .entry)) (now (samples .exit)) ⌝ }
 {
@@ -186,11 +188,11 @@ fn all_calls(tx: Tx, data: &[u8], script: &[u64], samples: &mut [f32], answers: 
     requires { ⌜ TxSound tx ⌝ }
     ensures { λ r. ⌜
         ran (r .calls) (now (samples .exit)) (now (answers .exit))
-        ≡ sentFrom (callsFor (now (script .entry)) (now (answers .entry)))
+        ≡ sentFrom sends (callsFor (now (script .entry)) (now (answers .entry)))
         (senderOf tx) (now («data» .entry)) (now (script .entry)) (now (samples .entry)) (now (answers .entry)) ⌝ }
     ensures { λ r. ⌜
         senderOf (r .state)
-        ≡ senderAfter (callsFor (now (script .entry)) (now (answers .entry)))
+        ≡ senderAfter sends (callsFor (now (script .entry)) (now (answers .entry)))
         (senderOf tx) (now («data» .entry)) (now (script .entry)) (now (samples .entry)) ⌝ }
     ensures { λ r. ⌜ TxSound (r .state) ⌝ }
 {

@@ -20,6 +20,7 @@ pub use demodulation::Kind;
 pub use framing::frame::Deframer;
 pub use framing::frame::frame_byte;
 pub use listener::Listener;
+pub use modulation::TableTx;
 pub use modulation::Tx;
 pub use resampling::Resampler;
 pub use rx::Rx;

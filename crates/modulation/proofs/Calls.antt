@@ -65,18 +65,19 @@ unfolding readOf senderOf
 read-filled t t′ o o′ n a z f =
     rw (f .accepted, z) (λ i. reading (given tt) (f .is i .passes) (sender (f .is i .after) (f .served i)) (f .is i .samples))
 
+-- an answer that is not accepted stands for a number above 0
+pub some-refused : (a : Acceptance) (k : ℕ) → acceptanceOf a ≡ replyOf k → isAccepted a ≡ false → (j : ℕ) × (k ≡ suc j)
+some-refused a zero e n = absurd (true≢false (sym (yes a e) ∙ n))
+  where
+    yes : (a : Acceptance) → acceptanceOf a ≡ replyOf 0 → isAccepted a ≡ true
+    yes acceptance.Accepted e = refl
+    yes (acceptance.Refused r) e = let z : _≡_ {A = ℕ} 0 1 = cc in absurd (omega arith)
+some-refused a (suc k) e n = (k, refl)
+
 pub read-refused : (t : Tx) (o : List Float) (a : Acceptance) → acceptanceOf a ≡ replyOf (readRefused (t .served) (length o)) → isAccepted a ≡ false
     → reading (acceptanceOf a) 0 (senderOf t) o ≡ readOf (senderOf t) o
 unfolding readOf senderOf
-read-refused t o a e n = go (readRefused (t .served) (length o)) e
-  where
-    go : (k : ℕ) → acceptanceOf a ≡ replyOf k → reading (acceptanceOf a) 0 (sender (modulatorOf t) (t .served)) o ≡ unlessRefused k (sender (modulatorOf t) (t .served)) o (filledFor (sender (modulatorOf t) (t .served)) (length o))
-    go zero e = absurd (true≢false (sym (yes a e) ∙ n))
-      where
-        yes : (a : Acceptance) → acceptanceOf a ≡ replyOf 0 → isAccepted a ≡ true
-        yes acceptance.Accepted e = refl
-        yes (acceptance.Refused r) e = let z : _≡_ {A = ℕ} 0 1 = cc in absurd (omega arith)
-    go (suc k) e = rw e
+read-refused t o a e n = let s = some-refused a (readRefused (t .served) (length o)) e n in rw (e, s .1)
 
 -- ---- `pending`
 pub bits-wait : (a : List Bool) (h n : ℕ) → ltb 0 n ≡ bitsWait (queued a h n)

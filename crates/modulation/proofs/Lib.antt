@@ -13,3 +13,7 @@ pub mod TxLaws
 pub mod PassLaws
 pub mod RequestLaws
 pub mod NumberLaws
+pub mod TableList
+pub mod TableLaws
+pub mod TableSteps
+pub mod TableTxLaws

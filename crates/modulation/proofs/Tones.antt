@@ -55,16 +55,16 @@ four-are t k k₁ k₂ k₃ k₄ a b c d e₁ e₂ e₃ e₄ =
     then 3 t k k₁ k₄ a (b ∷ c ∷ d ∷ []) e₁ (then 2 t k₁ k₂ k₄ b (c ∷ d ∷ []) e₂ (then 1 t k₂ k₃ k₄ c (d ∷ []) e₃ (then 0 t k₃ k₄ k₄ d [] e₄ refl)))
 
 -- ---- a slice of samples
-left-turn : (n i : ℕ) → i < n → n - i ≡ suc (n - (i + 1))
+pub left-turn : (n i : ℕ) → i < n → n - i ≡ suc (n - (i + 1))
 left-turn n i h = omega arith
 
 left-four : (n i : ℕ) → i + 3 < n → n - i ≡ suc (suc (suc (suc (n - (i + 4)))))
 left-four n i h = omega arith
 
-left-none : (n i : ℕ) → n ≤ i → n - i ≡ 0
+pub left-none : (n i : ℕ) → n ≤ i → n - i ≡ 0
 left-none n i h = omega arith
 
-one-set : (out : List Float) (i : ℕ) (v : Float) → i < length out → take (i + 1) (set out i v) ≡ take i out ++ (v ∷ [])
+pub one-set : {A : Type 0} (out : List A) (i : ℕ) (v : A) → i < length out → take (i + 1) (set out i v) ≡ take i out ++ (v ∷ [])
 one-set out i v h = rw add-one (take-suc-set out i v h)
 
 four-set : (out : List Float) (i : ℕ) (a b c d : Float) → i + 3 < length out

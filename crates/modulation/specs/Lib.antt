@@ -7,5 +7,8 @@ pub mod ModulatorRep
 pub mod Tx
 pub mod TxRep
 pub mod Queueing
+pub mod Table
+pub mod TableTx
+pub mod TableTxRep
 pub mod Nco
 pub mod Numbers

@@ -4,12 +4,20 @@ use mathlib.Core.Path.{_≡_, refl}
 use mathlib.Core.Bool.{Bool, true, false}
 use mathlib.Core.List.{List, _++_}
 use Rattle.numeric.specs.If.{if_then_else_}
-use Rattle.refusal.specs.Refusals.{Reply, given, refused}
-use Rattle.modulation.specs.Requests.{Request, write, idleMark, bitsOf, isRefused, asked}
+use Rattle.refusal.specs.Refusals.{Reply, given, refused, acceptanceOf}
+use Rattle.modulation.specs.Requests.{Request, write, idleMark, bitsOf, isRefused, replyTo, asked}
+use Rattle.modulation.specs.Bits.{queued, BitsHeld}
 use Rattle.modulation.specs.Tone.{keyer}
 use Rattle.modulation.specs.Modulator.{Modulator, modulator}
 use Rattle.modulation.specs.Tx.{Sender, sender}
+use Rattle.modulation.specs.declared.bits.Asked.{Asked}
 use Rattle.modulation.specs.declared.tx.Tx.{Tx}
+
+-- a request of a queue that stands in the ring a: its answer, and the queue afterwards, in the ring b. Both senders use it
+pub record Asks (head : ℕ) (a : List Bool) (waiting : ℕ) (r : Request) (b : List Bool) (x : Asked) : Type 0 where
+  pub answer : acceptanceOf (x .answer) ≡ replyTo (queued a head waiting) r
+  pub waits : queued b head (x .waiting) ≡ asked (queued a head waiting) r
+  pub held : BitsHeld b head (x .waiting)
 
 -- these bits behind those that wait; all else as it was
 abbrev pub modulatorWith : Modulator → List Bool → Modulator

@@ -4,6 +4,7 @@ use mathlib.Core.Bool.{Bool}
 use mathlib.Core.List.{List, [], _∷_, _++_}
 use lib.ListN.{length}
 use Rattle.numeric.specs.If.{if_then_else_}
+use Rattle.refusal.specs.Refusals.{Reply, given, refused}
 use Rattle.framing.specs.Frame.{mark}
 use Rattle.framing.specs.Framing.{marks, framesOf, AreBytes}
 use Rattle.modulation.specs.Bits.{bitsRefused, nextBit, restBits}
@@ -31,6 +32,10 @@ bytesIn (idleMark n) = []
 -- "33 waiting + new bits exceed 4,096", for a queue of these bits
 abbrev pub isRefused : List Bool → Request → Bool
 isRefused q r = bitsRefused (length q) (newBits r)
+
+-- what it answers
+abbrev pub replyTo : List Bool → Request → Reply Unit
+replyTo q r = if isRefused q r then refused 33 else given tt
 
 -- the queue afterwards: a refused request changes nothing
 abbrev pub asked : List Bool → Request → List Bool

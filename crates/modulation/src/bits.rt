@@ -1,5 +1,7 @@
 // The bits that wait to be sent: a ring of 4,096 places, which the sender lends, the place of the oldest bit, and how many wait.
 use framing::frame::frame_byte;
+use refusal::Acceptance;
+use refusal::Refusal;
 ghost use mathlib.Core.Path.{_≡_};
 ghost use mathlib.Core.List.{[], _∷_};
 ghost use Prim.Native.Nat.{_+_, _*_, _%_, _≤_, _<_};
@@ -7,6 +9,8 @@ ghost use lib.ListN.{length};
 ghost use Rattle.framing.specs.Frame.{frameOf};
 ghost use Rattle.framing.specs.Framing.{marks, framesOf};
 ghost use Rattle.modulation.specs.Bits.{placeAfter, BitsHeld, Joined, Takes, bitsRefused};
+ghost use Rattle.modulation.specs.Requests.{write, idleMark};
+ghost use Rattle.modulation.specs.Queueing.{Asks};
 
 // As many bits wait at most.
 pub(crate) const MOST_BITS: usize = 4096;
@@ -135,4 +139,48 @@ pub(crate) fn push_frames(
         i += 1;
     }
     at
+}
+
+// ---- what a caller queues
+
+// The answer, and how many bits wait then.
+pub struct Asked {
+    pub answer: Acceptance,
+    pub waiting: usize,
+}
+
+// The frames of these bytes, unless refused 33.
+pub(crate) fn ask_frames(bits: &mut [bool; 4096], head: usize, waiting: usize, data: &[u8]) -> Asked
+    requires { ⌜ BitsHeld (now bits) head waiting ⌝ }
+    ensures { λ r. ⌜ Asks head (now (bits .entry)) waiting (write (now («data» .entry))) (now (bits .exit)) r ⌝ }
+{
+    if frames_refused(waiting, data.len()) {
+        return Asked {
+            answer: Acceptance::Refused(Refusal::BitsWait),
+            waiting,
+        };
+    }
+    let framed = push_frames(bits, head, waiting, data);
+    Asked {
+        answer: Acceptance::Accepted,
+        waiting: framed,
+    }
+}
+
+// n bit periods of idle mark, unless refused 33.
+pub(crate) fn ask_marks(bits: &mut [bool; 4096], head: usize, waiting: usize, n: usize) -> Asked
+    requires { ⌜ BitsHeld (now bits) head waiting ⌝ }
+    ensures { λ r. ⌜ Asks head (now (bits .entry)) waiting (idleMark n) (now (bits .exit)) r ⌝ }
+{
+    if bits_refused(waiting, n) {
+        return Asked {
+            answer: Acceptance::Refused(Refusal::BitsWait),
+            waiting,
+        };
+    }
+    let idle = push_marks(bits, head, waiting, n);
+    Asked {
+        answer: Acceptance::Accepted,
+        waiting: idle,
+    }
 }

@@ -7,13 +7,20 @@
 //   numbers    what waits, as it is shown                    specs/Numbers.antt
 //   tx         the sender                                    specs/Tx.antt, TxRep.antt
 //   queueing   what a caller queues                          specs/Queueing.antt
+//   table      a turn of the sine in 1,600 whole numbers     specs/Table.antt
+//   table_tx   the sender that has no floats                 specs/TableTx.antt, TableTxRep.antt
 mod bits;
 mod modulate;
 mod nco;
 mod numbers;
 mod queueing;
+mod table;
+mod table_tx;
 mod tx;
 
 pub use queueing::Queueing;
+pub use table_tx::TableQueueing;
+pub use table_tx::TableReading;
+pub use table_tx::TableTx;
 pub use tx::Adjusted;
 pub use tx::Tx;

@@ -1,13 +1,10 @@
 // What a caller queues for the sender: bytes, and bit periods of idle mark.
-use crate::bits::bits_refused;
-use crate::bits::frames_refused;
-use crate::bits::push_frames;
-use crate::bits::push_marks;
+use crate::bits::ask_frames;
+use crate::bits::ask_marks;
 use crate::tx::Tx;
 use refusal::Acceptance;
-use refusal::Refusal;
 ghost use mathlib.Core.Path.{_≡_};
-ghost use Rattle.refusal.specs.Refusals.{refused, acceptanceOf};
+ghost use Rattle.refusal.specs.Refusals.{acceptanceOf};
 ghost use Rattle.modulation.specs.TxRep.{senderOf, TxSound};
 ghost use Rattle.modulation.specs.Queueing.{queueing, writeOf, idleMarkOf, withBits};
 
@@ -25,18 +22,11 @@ impl Tx {
         ensures { λ r. ⌜ TxSound (r .state) ⌝ }
     {
         let wave = self.wave;
-        let head = wave.head;
-        let waiting = wave.waiting;
-        if frames_refused(waiting, data.len()) {
-            return self.refuse_bits();
-        }
         let mut bits = self.bits;
-        let framed = push_frames(&mut bits, head, waiting, data);
-        let state = self.with_bits(bits, framed);
-        Queueing {
-            answer: Acceptance::Accepted,
-            state,
-        }
+        let asked = ask_frames(&mut bits, wave.head, wave.waiting, data);
+        let answer = asked.answer;
+        let state = self.with_bits(bits, asked.waiting);
+        Queueing { answer, state }
     }
 
     // Queues n bit periods of idle mark, unless refused 33: what is queued next can't start before they are over.
@@ -46,28 +36,11 @@ impl Tx {
         ensures { λ r. ⌜ TxSound (r .state) ⌝ }
     {
         let wave = self.wave;
-        let head = wave.head;
-        let waiting = wave.waiting;
-        if bits_refused(waiting, n) {
-            return self.refuse_bits();
-        }
         let mut bits = self.bits;
-        let idle = push_marks(&mut bits, head, waiting, n);
-        let state = self.with_bits(bits, idle);
-        Queueing {
-            answer: Acceptance::Accepted,
-            state,
-        }
-    }
-
-    // Refused 33: nothing changes.
-    fn refuse_bits(self) -> Queueing
-        ensures { λ r. ⌜ (acceptanceOf (r .answer) ≡ refused 33) × (r .state ≡ self) ⌝ }
-    {
-        Queueing {
-            answer: Acceptance::Refused(Refusal::BitsWait),
-            state: self,
-        }
+        let asked = ask_marks(&mut bits, wave.head, wave.waiting, n);
+        let answer = asked.answer;
+        let state = self.with_bits(bits, asked.waiting);
+        Queueing { answer, state }
     }
 
     // The sender with this ring, in which so many bits wait.

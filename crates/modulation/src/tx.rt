@@ -212,7 +212,7 @@ pub struct Adjusted {
     pub answer: Acceptance,
 }
 
-fn falses() -> [bool; 4096]
+pub(crate) fn falses() -> [bool; 4096]
     ensures { λ r. ⌜ length r ≡ 4096 ⌝ }
 {
     [false; 4096]
@@ -257,7 +257,7 @@ fn fresh_at(rate: u32, role: Role) -> Tx
 }
 
 // The first check that a read does not pass.
-fn check(n: usize, served: u64) -> Acceptance
+pub(crate) fn check(n: usize, served: u64) -> Acceptance
     requires { ⌜ served ≤ 4294967296 ⌝ }
     ensures { λ r. ⌜ acceptanceOf r ≡ replyOf (readRefused served n) ⌝ }
 {

@@ -57,24 +57,25 @@ part-is text at k e = by (ltb (length (drop at text)) 64) refl
 pub part-length : (text : List ℕ) (at k : ℕ) → k ≡ min 64 (length text - at) → length (nextPart text at) ≡ k
 part-length text at k e = ap length (sym (part-is text at k e)) ∙ length-take-le k (drop at text) (omega (arith, length-drop at text))
 
+-- an accepted part is queued, and a refused one is asked for again
+pub goes-on : (b : Acceptance) (at n end : ℕ) → end ≡ at + n → isAccepted b ≡ true → queuedTo (acceptanceOf b) at n ≡ end
+goes-on acceptance.Accepted at n end e t = sym e
+goes-on (acceptance.Refused r) at n end e t = absurd (true≢false (sym t))
+
+pub asks-again : (b : Acceptance) (at n : ℕ) → isAccepted b ≡ false → queuedTo (acceptanceOf b) at n ≡ at
+asks-again acceptance.Accepted at n t = absurd (true≢false t)
+asks-again (acceptance.Refused r) at n t = refl
+
 module _ (s : Sender) {s′ : Sender} (a : Acceptance) (text part : List ℕ) (at : ℕ) (p : part ≡ nextPart text at) (q : queueing (acceptanceOf a) s′ ≡ writeOf s part) where
   at-answer : (n : ℕ) → queuedTo (acceptanceOf a) at (length (nextPart text at)) ≡ n → sent s′ n [] ≡ queuedMore s text at
   unfolding queuedMore
   at-answer n e = let is : queueing (acceptanceOf a) s′ ≡ writeOf s (nextPart text at) = q ∙ ap (writeOf s) p in rw (← is, e)
 
   pub queued-yes : (end : ℕ) → end ≡ at + length (nextPart text at) → isAccepted a ≡ true → sent s′ end [] ≡ queuedMore s text at
-  queued-yes end e y = at-answer end (by a y)
-    where
-      by : (b : Acceptance) → isAccepted b ≡ true → queuedTo (acceptanceOf b) at (length (nextPart text at)) ≡ end
-      by acceptance.Accepted t = sym e
-      by (acceptance.Refused r) t = absurd (true≢false (sym t))
+  queued-yes end e y = at-answer end (goes-on a at _ end e y)
 
   pub queued-no : isAccepted a ≡ false → sent s′ at [] ≡ queuedMore s text at
-  queued-no n = at-answer at (by a n)
-    where
-      by : (b : Acceptance) → isAccepted b ≡ false → queuedTo (acceptanceOf b) at (length (nextPart text at)) ≡ at
-      by acceptance.Accepted t = absurd (true≢false t)
-      by (acceptance.Refused r) t = refl
+  queued-no n = at-answer at (asks-again a at _ n)
 
 -- a block: what is queued, then what is read
 pub block-is : (s : Sender) {q : Sender} (text : List ℕ) (at : ℕ) {n : ℕ} {r : Sender} {a : Reply Unit} {passes : ℕ} (places : List Float) {out : List Float} → sent q n [] ≡ queuedMore s text at

@@ -4,12 +4,13 @@ use mathlib.Core.Path.{_≡_, refl, sym, ap, _∙_, subst}
 use mathlib.Core.List.{List, [], _∷_, _++_, append-assoc, append-nil}
 use native.Mathlib.Nat.{mul-add, mul-one, mul-zero}
 use native.Mathlib.Omega.{arith}
+use lib.IntN.{ℤ}
 use lib.ListN.{length, take, set, getD, length-set}
 use lib.Seq.{take-suc-set, take-suc, take-length}
 use lib.Ieee.{Float, binary32, toBits}
 use Rattle.wav.specs.Recording.{two, four}
 use Rattle.send_app.specs.Header.{widthOf, withWord}
-use Rattle.send_app.specs.Bytes.{pcm16Of, bytesOf, blockBytes, withHalf, placed}
+use Rattle.send_app.specs.Bytes.{pcm16Of, bytesOf, inOrder, blockBytes, sixteenOf, wholeBytes, tableBytes, withHalf, placed}
 use Rattle.send_app.specs.declared.words.Kind.{Kind}
 use Rattle.send_app.specs.declared.words.Kind.the-variants as kind
 
@@ -33,6 +34,9 @@ put-four xs at a b c d h =
     ∙ ap (λ (l : List ℕ). l ++ (d ∷ [])) (append-assoc (take at xs) (a ∷ b ∷ []) (c ∷ []))
     ∙ append-assoc (take at xs) (a ∷ b ∷ c ∷ []) (d ∷ [])
 
+pub half-length : (xs : List ℕ) (at n : ℕ) → length (withHalf xs at n) ≡ length xs
+half-length xs at n = length-set (set xs at (n % 256)) (at + 1) (n / 256) ∙ length-set xs at (n % 256)
+
 -- ---- a sample
 pub placed-length : (k : Kind) (xs : List ℕ) (at : ℕ) (x : Float) → length (placed k xs at x) ≡ length xs
 placed-length kind.Float xs at x =
@@ -41,8 +45,7 @@ placed-length kind.Float xs at x =
     let two = set one (at + 1) (n / 256 % 256) in
     let three = set two (at + 2) (n / 65536 % 256) in
     length-set three (at + 3) (n / 16777216) ∙ length-set two (at + 2) (n / 65536 % 256) ∙ length-set one (at + 1) (n / 256 % 256) ∙ length-set xs at (n % 256)
-placed-length kind.Pcm16 xs at x =
-    let n = pcm16Of x in length-set (set xs at (n % 256)) (at + 1) (n / 256) ∙ length-set xs at (n % 256)
+placed-length kind.Pcm16 xs at x = half-length xs at (pcm16Of x)
 
 placed-front : (k : Kind) (xs : List ℕ) (at : ℕ) (x : Float) → at + widthOf k ≤ length xs → take (at + widthOf k) (placed k xs at x) ≡ take at xs ++ bytesOf k x
 unfolding bytesOf two four
@@ -73,32 +76,45 @@ pub whole-room : (k : Kind) (n : ℕ) → n ≤ 1024 → widthOf k * n ≤ 4096
 whole-room kind.Float n l = omega arith
 whole-room kind.Pcm16 n l = omega arith
 
+-- ---- a block of samples of any type
+module _ {A : Type 0} (f : A → List ℕ) where
+  in-order-append : (xs ys : List A) → inOrder f (xs ++ ys) ≡ inOrder f xs ++ inOrder f ys
+  unfolding inOrder
+  in-order-append [] ys = refl
+  in-order-append (x ∷ xs) ys = rw (in-order-append xs ys) (sym (append-assoc (f x) (inOrder f xs) (inOrder f ys)))
+
+  in-order-one : (x : A) → inOrder f (x ∷ []) ≡ f x
+  unfolding inOrder
+  in-order-one x = append-nil (f x)
+
+  -- one sample more
+  one-more : (xs : List A) (i : ℕ) (d : A) (front : List ℕ) → i < length xs → front ≡ inOrder f (take i xs) → front ++ f (getD xs i d) ≡ inOrder f (take (i + 1) xs)
+  one-more xs i d front h e =
+      let s : i + 1 ≡ suc i = omega arith in
+      ap (λ (z : List ℕ). z ++ f (getD xs i d)) e
+      ∙ sym (ap (inOrder f) (ap (λ (z : ℕ). take z xs) s ∙ take-suc xs i d h) ∙ in-order-append (take i xs) (getD xs i d ∷ []) ∙ ap (λ (z : List ℕ). inOrder f (take i xs) ++ z) (in-order-one (getD xs i d)))
+
+  pub packs-none : (w : ℕ) (bytes : List ℕ) (xs : List A) → take (w * 0) bytes ≡ inOrder f (take 0 xs)
+  unfolding inOrder
+  packs-none w bytes xs = rw (mul-zero w) refl
+
+  pub packs-all : (w : ℕ) (bytes : List ℕ) (xs : List A) (i : ℕ) → i ≤ length xs → length xs ≤ i → take (w * i) bytes ≡ inOrder f (take i xs) → take (w * length xs) bytes ≡ inOrder f xs
+  packs-all w bytes xs i a b e =
+      let s : i ≡ length xs = omega arith in
+      subst (λ (j : ℕ). take (w * j) bytes ≡ inOrder f (take j xs)) s e ∙ ap (inOrder f) (take-length xs)
+
 -- ---- a block
-bytes-append : (k : Kind) (xs ys : List Float) → blockBytes k (xs ++ ys) ≡ blockBytes k xs ++ blockBytes k ys
-unfolding blockBytes
-bytes-append k [] ys = refl
-bytes-append k (x ∷ xs) ys = rw (bytes-append k xs ys) (sym (append-assoc (bytesOf k x) (blockBytes k xs) (blockBytes k ys)))
-
-bytes-one : (k : Kind) (x : Float) → blockBytes k (x ∷ []) ≡ bytesOf k x
-unfolding blockBytes
-bytes-one k x = append-nil (bytesOf k x)
-
-pub packs-none : (k : Kind) (bytes : List ℕ) (xs : List Float) → take (widthOf k * 0) bytes ≡ blockBytes k (take 0 xs)
-unfolding blockBytes
-packs-none k bytes xs = rw (mul-zero (widthOf k)) refl
-
 pub packs-more : (k : Kind) (bytes : List ℕ) (at : ℕ) (xs : List Float) (i : ℕ) (d : Float) → i < length xs → length xs ≤ 1024 → length bytes ≡ 4096 → at ≡ widthOf k * i
     → take (widthOf k * i) bytes ≡ blockBytes k (take i xs) → take (widthOf k * (i + 1)) (placed k bytes at (getD xs i d)) ≡ blockBytes k (take (i + 1) xs)
 packs-more k bytes at xs i d h l m a e =
     let w = widthOf k in
     let n : w * (i + 1) ≡ w * i + w = mul-add w i 1 ∙ ap (λ (z : ℕ). w * i + z) (mul-one w) in
-    let s : i + 1 ≡ suc i = omega arith in
-    rw (a, n)
-    (placed-front k bytes (w * i) (getD xs i d) (omega (arith, m, room k i (length xs) h l)) ∙ ap (λ (z : List ℕ). z ++ bytesOf k (getD xs i d)) e
-    ∙ sym (ap (blockBytes k) (ap (λ (z : ℕ). take z xs) s ∙ take-suc xs i d h) ∙ bytes-append k (take i xs) (getD xs i d ∷ []) ∙ ap (λ (z : List ℕ). blockBytes k (take i xs) ++ z) (bytes-one k (getD xs i d))))
+    rw (a, n) (placed-front k bytes (w * i) (getD xs i d) (omega (arith, m, room k i (length xs) h l)) ∙ one-more (bytesOf k) xs i d (take (w * i) bytes) h e)
 
-pub packs-all : (k : Kind) (bytes : List ℕ) (xs : List Float) (i : ℕ) → i ≤ length xs → length xs ≤ i → take (widthOf k * i) bytes ≡ blockBytes k (take i xs)
-    → take (widthOf k * length xs) bytes ≡ blockBytes k xs
-packs-all k bytes xs i a b e =
-    let s : i ≡ length xs = omega arith in
-    subst (λ (j : ℕ). take (widthOf k * j) bytes ≡ blockBytes k (take j xs)) s e ∙ ap (blockBytes k) (take-length xs)
+-- ---- a block of the table's samples
+pub table-more : (bytes : List ℕ) (xs : List ℤ) (i : ℕ) (d : ℤ) → i < length xs → length xs ≤ 1024 → length bytes ≡ 4096 → take (2 * i) bytes ≡ tableBytes (take i xs)
+    → take (2 * (i + 1)) (withHalf bytes (2 * i) (sixteenOf (getD xs i d))) ≡ tableBytes (take (i + 1) xs)
+unfolding two
+table-more bytes xs i d h l m e =
+    let n : 2 * (i + 1) ≡ 2 * i + 2 = omega arith in
+    rw n (put-two bytes (2 * i) _ _ (omega arith) ∙ one-more wholeBytes xs i d (take (2 * i) bytes) h e)

@@ -1,8 +1,10 @@
--- A fresh sender refuses nothing of what `send` asks before the text. Assumes nothing.
-use Prim.Native.Nat.{ℕ}
+-- A fresh sender refuses nothing of what `send` asks before the text; how long a call is. Assumes nothing.
+use Prim.Native.Nat.{ℕ, _+_, _*_}
 use mathlib.Core.Path.{_≡_, refl, ap, _∙_}
 use mathlib.Core.Bool.{Bool, true, false}
 use mathlib.Core.List.{List, [], _∷_, _++_}
+use native.Mathlib.Omega.{arith}
+use lib.ListN.{length}
 use lib.Ieee.{Float}
 use Rattle.numeric.specs.If.{if_then_else_}
 use Rattle.refusal.specs.Refusals.{given, refused}
@@ -11,7 +13,7 @@ use Rattle.modulation.specs.Requests.{Request, write, idleMark, asked}
 use Rattle.bell103.specs.declared.Role.{Role}
 use Rattle.modulation.specs.Tx.{Sender, sender, adjusted, amplitudeRefused, atAmplitude, amplitudeOf, freshModulator, freshSender}
 use Rattle.modulation.specs.Queueing.{requested, requested-asks}
-use Rattle.send_app.specs.Call.{half, openedOf}
+use Rattle.send_app.specs.Call.{half, callOf, bitPeriods, openedOf}
 
 -- the amplitude has no say in the bits that wait
 same-bits : (s : Sender) (a : Float) → amplitudeOf s a .state .modulator .keyer .bits ≡ s .modulator .keyer .bits
@@ -36,3 +38,7 @@ pub opening-waits : (rate : ℕ) (role : Role)
 unfolding openedOf framesOf
 opening-waits rate role =
     bits-after _ (write (0x0A ∷ [])) _ (bits-after _ (idleMark 60) _ (bits-after _ (write (0x55 ∷ [])) _ (bits-after _ (idleMark 300) _ (same-bits _ half ∙ none rate role))))
+
+pub periods : (text : List ℕ) → bitPeriods (callOf text) ≡ 440 + 10 * length text
+unfolding callOf bitPeriods
+periods text = omega arith

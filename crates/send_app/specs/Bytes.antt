@@ -1,6 +1,7 @@
 -- Samples as bytes. Assumes nothing.
 use Prim.Native.Nat.{ℕ, _+_, _-_, _/_, _%_}
 use mathlib.Core.List.{List, [], _++_, _∷_}
+use lib.IntN.{ℤ, pos, negsuc}
 use lib.ListN.{set}
 use lib.Ieee.{Float, binary32, neg, toBits, toUnsigned}
 use Rattle.numeric.specs.F64.{_<ᶠ_, _⊗_, f64, zero64, one64}
@@ -29,10 +30,27 @@ unfoldable pub bytesOf : Kind → Float → List ℕ
 bytesOf kind.Float x = four (toBits binary32 x)
 bytesOf kind.Pcm16 x = two (pcm16Of x)
 
+-- samples' bytes, one sample after the other
+unfoldable pub inOrder : {A : Type 0} → (A → List ℕ) → List A → List ℕ
+inOrder bytes [] = []
+inOrder bytes (x ∷ xs) = bytes x ++ inOrder bytes xs
+
 -- the bytes of a block of samples
-unfoldable pub blockBytes : Kind → List Float → List ℕ
-blockBytes k [] = []
-blockBytes k (x ∷ xs) = bytesOf k x ++ blockBytes k xs
+abbrev pub blockBytes : Kind → List Float → List ℕ
+blockBytes k xs = inOrder (bytesOf k) xs
+
+-- ---- the table's samples, each as it stands
+-- 16 bits in two's complement: the whole number modulo 65,536
+unfoldable pub sixteenOf : ℤ → ℕ
+sixteenOf (pos n) = n % 65536
+sixteenOf (negsuc n) = 65535 - n % 65536
+
+abbrev pub wholeBytes : ℤ → List ℕ
+wholeBytes x = two (sixteenOf x)
+
+-- the bytes of a block of the table's samples
+abbrev pub tableBytes : List ℤ → List ℕ
+tableBytes xs = inOrder wholeBytes xs
 
 -- ---- how the code lays them: a sample's bytes in a list, from a place on
 abbrev pub withHalf : List ℕ → ℕ → ℕ → List ℕ

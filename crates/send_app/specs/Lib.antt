@@ -3,3 +3,4 @@ pub mod Words
 pub mod Header
 pub mod Bytes
 pub mod Call
+pub mod Gauge

@@ -1,4 +1,4 @@
-// Samples as bytes, low byte first: floats of 32 bits, or PCM of 16.
+// Samples as bytes, low byte first: floats of 32 bits, or PCM of 16; and the table's, which are whole numbers.
 use crate::header::byte_0;
 use crate::header::byte_1;
 use crate::header::put_word;
@@ -9,7 +9,7 @@ ghost use Prim.Native.Nat.{_+_, _*_, _≤_, _<_};
 ghost use lib.Ieee.{binary32, toBits};
 ghost use lib.ListN.{length, take};
 ghost use Rattle.send_app.specs.Header.{widthOf};
-ghost use Rattle.send_app.specs.Bytes.{nearest16, pcm16Of, withHalf, placed, blockBytes};
+ghost use Rattle.send_app.specs.Bytes.{nearest16, pcm16Of, sixteenOf, withHalf, placed, blockBytes, tableBytes};
 
 // A sample's bits. No sample of the sender's is a NaN; one would be written as the plain one.
 fn pattern_of(x: f32) -> u32
@@ -86,6 +86,31 @@ pub fn pack(kind: Kind, samples: &[f32], bytes: &mut [u8; 4096])
     let mut i = 0;
     while i < samples.len() {
         put_sample(kind, bytes, offset(kind, i), samples[i]);
+        i += 1;
+    }
+}
+
+// The sixteen bits of a whole number, in two's complement.
+fn sixteen_bits(x: i32) -> u32
+    ensures { λ r. ⌜ (r ≡ sixteenOf x) × (r < 65536) ⌝ }
+{
+    if x < 0 {
+        let k = (-1 - x) as u32;
+        return 65535 - k % 65536;
+    }
+    x as u32 % 65536
+}
+
+// The bytes of a block of the table's samples, at the front.
+pub fn pack_table(samples: &[i32], bytes: &mut [u8; 4096])
+    requires { ⌜ (length (now samples) ≤ 1024) × (length (now bytes) ≡ 4096) ⌝ }
+    ensures { λ _. ⌜ take (2 * length (now (samples .entry))) (now (bytes .exit)) ≡ tableBytes (now (samples .entry)) ⌝ }
+    ensures { λ _. ⌜ length (now (bytes .exit)) ≡ 4096 ⌝ }
+{
+    let mut i = 0;
+    while i < samples.len() {
+        let x = samples[i];
+        put_half(bytes, 2 * i, sixteen_bits(x));
         i += 1;
     }
 }

@@ -1,7 +1,6 @@
 // The call: idle mark, a training character, idle mark, a bare line end, the text, idle mark.
 use crate::bytes::offset;
 use crate::bytes::pack;
-use crate::complain;
 use crate::header::header_float;
 use crate::header::header_pcm;
 use crate::words::Kind;
@@ -21,18 +20,18 @@ ghost use Rattle.send_app.specs.Call.{callOf, bitPeriods, openedOf, sent
 const AMPLITUDE: f32 = 0.5;
 
 // Alternating bits, from which the other end learns where a symbol begins.
-const TRAINING: u8 = 0x55;
+pub const TRAINING: u8 = 0x55;
 
 // Bit periods of idle mark: before the call, in which the other end's detector rises; behind the training character; and at the end, so
 // that the last bit is through the other end's filter.
-const LEAD: usize = 300;
+pub const LEAD: usize = 300;
 
-const GAP: usize = 60;
+pub const GAP: usize = 60;
 
 const TAIL: usize = 60;
 
 // Bit periods of the whole call.
-fn bits_for(text: &[u8]) -> usize
+pub fn bits_for(text: &[u8]) -> usize
     requires { ⌜ length (now text) ≤ 65536 ⌝ }
     ensures { λ r. ⌜ r ≡ bitPeriods (callOf (now (text .entry))) ⌝ }
 {
@@ -89,7 +88,7 @@ fn queue_more(s: Sending, text: &[u8]) -> Sending
     }
 }
 
-fn end_of(at: usize, len: usize) -> usize
+pub fn end_of(at: usize, len: usize) -> usize
     requires { ⌜ at ≤ len ⌝ }
     ensures { λ r. ⌜ (r ≡ at + min 64 (len - at)) × (at ≤ r) × (r ≤ len) ⌝ }
 {
@@ -140,16 +139,16 @@ fn send_block(s: Sending, kind: Kind, text: &[u8], n: usize) -> Sending
     send_part(s, kind, text, &mut block[..n])
 }
 
-fn block_of(left: usize) -> usize
+pub fn block_of(left: usize) -> usize
     ensures { λ r. ⌜ (r ≤ 1024) × (r ≤ left) × (0 < left → 0 < r) ⌝ }
 {
     if left < 1024 { left } else { 1024 }
 }
 
 // How many samples were sent, and whether all of them were written.
-struct Ended {
-    sent: usize,
-    well: bool,
+pub struct Ended {
+    pub sent: usize,
+    pub well: bool,
 }
 
 // So many samples of the call, as far as they can be written. Idle mark follows the text by itself: a sender whose queue is empty holds it.
@@ -191,7 +190,7 @@ fn within(n: usize) -> u32
 }
 
 // Writes all before the samples; whether that went well.
-fn write_header(kind: Kind, rate: u16, samples: u32) -> bool
+pub fn write_header(kind: Kind, rate: u16, samples: u32) -> bool
     requires { ⌜ samples ≤ 1000000000 ⌝ }
 {
     match kind {
@@ -201,7 +200,7 @@ fn write_header(kind: Kind, rate: u16, samples: u32) -> bool
 }
 
 // Sends a text of 65,535 bytes at the most; whether all was written.
-fn send_call(role: Role, rate: u16, kind: Kind, text: &[u8]) -> bool
+pub fn send_call(role: Role, rate: u16, kind: Kind, text: &[u8]) -> bool
     requires { ⌜ length (now text) ≤ 65536 ⌝ }
 {
     let made = Tx::new(rate as u32, role);
@@ -214,17 +213,4 @@ fn send_call(role: Role, rate: u16, kind: Kind, text: &[u8]) -> bool
     }
     let ended = send_samples(ready, kind, text, samples as usize);
     ended.well
-}
-
-// Sends all of standard input.
-pub fn send_text(role: Role, rate: u16, kind: Kind) {
-    let mut text = io::large_buffer();
-    let n = io::read_full(0, &mut text);
-    if n == text.len() {
-        complain::of_text();
-        return;
-    }
-    if !send_call(role, rate, kind, &text[..n]) {
-        complain::of_output();
-    }
 }

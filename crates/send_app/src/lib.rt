@@ -4,11 +4,15 @@
 //   header    the recording's header                    specs/Header.antt
 //   bytes     samples as bytes                          specs/Bytes.antt
 //   call      the call, block by block                  specs/Call.antt
+//   gauge     the same call from the table              specs/Gauge.antt
+//   text      the text, from the source asked for
 //   complain  a line on standard error
 mod bytes;
 mod call;
 mod complain;
+mod gauge;
 mod header;
+mod text;
 mod words;
 
 use words::Request;
@@ -17,7 +21,7 @@ use words::Request;
 pub fn run() {
     let request = words::read();
     match request {
-        Request::Call { role, rate, kind } => call::send_text(role, rate, kind),
+        Request::Call { role, source } => text::send_text(role, source),
         Request::Unclear(why) => complain::of_words(why),
     }
 }

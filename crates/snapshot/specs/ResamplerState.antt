@@ -21,10 +21,10 @@ shownAfter (refused k) s l = l
 
 -- what the function leaves: the run, and the lent list
 pub record Traced : Type 0 where
-  pub run : Run
+  pub run : Run Float
   pub state : List Float
 
-abbrev pub traced : Run → List Float → Traced
+abbrev pub traced : Run Float → List Float → Traced
 traced r l = record { run = r; state = l }
 
 -- the calls of the script, and the state behind them

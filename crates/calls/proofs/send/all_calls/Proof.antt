@@ -4,7 +4,8 @@ use native.Mathlib.Omega.{arith}
 use lib.ListN.{length, take, drop}
 use Rattle.modulation.specs.TxRep.{senderOf}
 use Rattle.calls.specs.Resample.{after}
-use Rattle.calls.specs.Send.{sentFrom, senderAfter}
+use Rattle.calls.specs.Script.{sentFrom, senderAfter}
+use Rattle.calls.specs.Send.{sends}
 use Rattle.calls.specs.SendSteps.{Within}
 use Rattle.calls.proofs.Steps.{send-start, send-step, send-end, sender-start, sender-step, sender-end}
 use borrow.Author.Needs.{needs}
@@ -17,8 +18,8 @@ Inv-loop «data» script samples₀ answers₀ calls place₀ i₀ samples answe
     × (length samples ≡ length samples₀)
     × (length answers ≡ length answers₀)
     × Within place «data» samples
-    × (after i (take (place .written) samples) (take (3 * i) answers) (sentFrom (calls - i) (senderOf (place .state)) (drop (place .read) «data») (drop (2 * i) script) (drop (place .written) samples) (drop (3 * i) answers)) ≡ sentFrom calls (senderOf (place₀ .state)) «data» script samples₀ answers₀)
-    × (senderAfter (calls - i) (senderOf (place .state)) (drop (place .read) «data») (drop (2 * i) script) (drop (place .written) samples) ≡ senderAfter calls (senderOf (place₀ .state)) «data» script samples₀)
+    × (after i (take (place .written) samples) (take (3 * i) answers) (sentFrom sends (calls - i) (senderOf (place .state)) (drop (place .read) «data») (drop (2 * i) script) (drop (place .written) samples) (drop (3 * i) answers)) ≡ sentFrom sends calls (senderOf (place₀ .state)) «data» script samples₀ answers₀)
+    × (senderAfter sends (calls - i) (senderOf (place .state)) (drop (place .read) «data») (drop (2 * i) script) (drop (place .written) samples) ≡ senderAfter sends calls (senderOf (place₀ .state)) «data» script samples₀)
 
 abbrev μ-loop : tie.MeasureT-loop
 μ-loop «data» script samples₀ answers₀ calls place₀ i₀ samples answers place i = calls - i
@@ -27,7 +28,7 @@ smaller-requires : tie.Need-smaller-requires Inv-loop μ-loop
 smaller-requires c κs = search needs
 
 loop-holds : tie.Need-loop-holds Inv-loop μ-loop
-loop-holds c = (omega arith, refl, refl, record { sound = c .before .before .before .before .before .pre; read = zero-le; written = zero-le }, send-start _ _ _ _ _ _, sender-start _ _ _ _ _)
+loop-holds c = (omega arith, refl, refl, record { sound = c .before .before .before .before .before .pre; read = zero-le; written = zero-le }, send-start sends _ _ _ _ _ _, sender-start sends _ _ _ _ _)
 
 mul-kind : tie.Need-mul-kind Inv-loop μ-loop
 mul-kind c = search needs
@@ -74,8 +75,8 @@ loop-again c =
       search needs,
       search needs,
       o .1,
-      send-step script (l .i) _ _ room _ _ _ _ _ (o .0) _ _ (omega (arith, t)) ∙ l .inv .4,
-      sender-step script (l .i) _ _ room _ _ _ _ _ (o .0) _ _ (omega (arith, t)) ∙ l .inv .5,
+      send-step sends script (l .i) _ _ room _ _ _ _ _ (o .0) _ _ (omega (arith, t)) ∙ l .inv .4,
+      sender-step sends script (l .i) _ _ room _ _ _ _ _ (o .0) _ _ (omega (arith, t)) ∙ l .inv .5,
     )
 
 same-length : tie.Need-same-length Inv-loop μ-loop
@@ -89,8 +90,8 @@ returns c =
     let l = c .before .before .loop in
     let n = c .before .before .before .smaller in
     let e : l .i ≡ n .result = omega (arith, l .inv .0, c .before .loop-test .left) in (
-      rw (← n .ensures .0) (sym (send-end (l .i) (n .result) e _ _ _ _ _ (l .place .written) (3 * l .i)) ∙ l .inv .4),
-      (rw (← n .ensures .0) (sym (sender-end (l .i) (n .result) e _ _ _ _) ∙ l .inv .5), l .inv .3 .sound),
+      rw (← n .ensures .0) (sym (send-end sends (l .i) (n .result) e _ _ _ _ _ (l .place .written) (3 * l .i)) ∙ l .inv .4),
+      (rw (← n .ensures .0) (sym (sender-end sends (l .i) (n .result) e _ _ _ _) ∙ l .inv .5), l .inv .3 .sound),
     )
 
 pub all-calls-spec : {M : Type 1} → statement M

@@ -2,6 +2,8 @@ use Prim.Native.Nat.{ℕ, min, _+_, _-_}
 use mathlib.Core.Path.{_∙_, ap}
 use lib.ListN.{length}
 use Rattle.calls.specs.Answers.{bit}
+use Rattle.calls.specs.Send.{sends}
+use Rattle.calls.specs.SendSteps.{atOf}
 use Rattle.calls.proofs.Steps.{call-steps, call-within}
 use borrow.Author.Needs.{needs}
 use Rattle.calls.proofs.send.one_call.Statement.{statement}
@@ -78,9 +80,11 @@ returns c =
     let e-is = ap (λ (k : ℕ). a .p .read + k) (c .before .before .before .before .before .before .before .before .before .before .before .before .before .before .smaller .ensures .0 ∙ ap (λ (k : ℕ). min k (length (a .«data» .now) - a .p .read)) (c .before .before .before .before .before .before .before .before .before .before .before .before .before .before .before .bytes-for .ensures)) in
     let f-is = ap (λ (k : ℕ). a .p .written + k) (c .before .before .before .before .before .before .before .before .before .before .before .before .smaller2 .ensures .0 ∙ ap (λ (k : ℕ). min k (length (a .samples .now) - a .p .written)) (c .before .before .before .before .before .before .before .before .before .before .before .before .before .places-for .ensures)) in
     let long = c .before .before .before .before .before .before .before .before .samples .given .1 in
-    let waits-is = c .before .before .before .before .one-if .ensures ∙ ap bit (c .before .before .before .before .before .pending .ensures) in (
-      call-steps (a .p) (a .kind) (a .n) (a .«data» .now) (a .samples .now) (s .pre .0) _ _ e-is f-is (m .result) _ (m .ensures .0) (m .ensures .1) long _ _ _ _ waits-is (c .before .before .tell-sent .ensures),
-      call-within (a .p) (a .kind) (a .n) (a .«data» .now) (a .samples .now) (s .pre .0) _ _ e-is f-is (m .result) _ (m .ensures .0) (m .ensures .1) long,
+    let waits-is = c .before .before .before .before .one-if .ensures ∙ ap bit (c .before .before .before .before .before .pending .ensures) in
+    let at = s .pre .0 in
+    let i = call-within sends (atOf (a .p)) (a .kind) (a .n) (a .«data» .now) (a .samples .now) (at .read) (at .written) _ _ e-is f-is _ (m .ensures .0) long in (
+      call-steps sends (atOf (a .p)) (a .kind) (a .n) (a .«data» .now) (a .samples .now) (at .read) (at .written) _ _ e-is f-is _ (m .ensures .0) long _ _ _ _ waits-is (c .before .before .tell-sent .ensures),
+      record { sound = m .ensures .1; read = i .0; written = i .1 },
     )
 
 pub one-call-spec : {M : Type 1} → statement M

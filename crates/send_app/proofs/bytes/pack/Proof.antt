@@ -5,7 +5,7 @@ use mathlib.Core.List.{List}
 use native.Mathlib.Omega.{arith}
 use lib.ListN.{length, take}
 use Rattle.send_app.specs.Header.{widthOf}
-use Rattle.send_app.specs.Bytes.{blockBytes}
+use Rattle.send_app.specs.Bytes.{bytesOf, blockBytes}
 use Rattle.send_app.proofs.BytesLaws.{placed-length, room, packs-none, packs-more, packs-all}
 use borrow.Author.Needs.{needs}
 use Rattle.send_app.proofs.bytes.pack.Statement.{statement}
@@ -18,7 +18,7 @@ abbrev μ-loop : tie.MeasureT-loop
 μ-loop kind samples bytes₀ i₀ bytes i = length samples - i
 
 loop-holds : tie.Need-loop-holds Inv-loop μ-loop
-loop-holds c = (omega arith, c .before .pre .1, packs-none (c .before .args .kind) (c .before .args .bytes .now) (c .before .args .samples .now))
+loop-holds c = (omega arith, c .before .pre .1, packs-none (bytesOf (c .before .args .kind)) (widthOf (c .before .args .kind)) (c .before .args .bytes .now) (c .before .args .samples .now))
 
 offset-requires : tie.Need-offset-requires Inv-loop μ-loop
 offset-requires c κs = search needs
@@ -49,7 +49,7 @@ loop-again c =
     )
 
 returns : tie.Need-returns Inv-loop μ-loop
-returns c = (packs-all (c .before .before .before .args .kind) _ _ _ (c .before .loop .inv .0) (c .loop-test .left) (c .before .loop .inv .2), c .before .loop .inv .1)
+returns c = (packs-all (bytesOf (c .before .before .before .args .kind)) (widthOf (c .before .before .before .args .kind)) _ _ _ (c .before .loop .inv .0) (c .loop-test .left) (c .before .loop .inv .2), c .before .loop .inv .1)
 
 pub pack-spec : {M : Type 1} → statement M
 pack-spec =

@@ -1,4 +1,4 @@
--- The tests pick the case. Assumes nothing.
+-- The test picks the case. Assumes nothing.
 use mathlib.Core.Path.{refl}
 use borrow.Author.Tests.{eq-eqb, ne-eqb}
 use Rattle.send_app.specs.Words.{thirdOf}
@@ -11,11 +11,7 @@ returns c = rw (eq-eqb _ _ (c .if1 .taken)) refl
 
 returns-2 : tie.Need-returns-2
 unfolding thirdOf
-returns-2 c = rw (ne-eqb _ _ (c .before .if1 .left), c .if2 .taken) refl
-
-returns-3 : tie.Need-returns-3
-unfolding thirdOf
-returns-3 c = rw (ne-eqb _ _ (c .before .if1 .left), c .if2 .left) refl
+returns-2 c = rw (ne-eqb _ _ (c .if1 .left)) refl
 
 pub third-of-spec : {M : Type 1} → statement M
-third-of-spec = tie.close (tie.spec returns returns-2 returns-3)
+third-of-spec = tie.close (tie.spec returns returns-2)
