@@ -415,6 +415,39 @@ uint32_t morkhetta_settings_write(
  */
 size_t morkhetta_test_digits(const uint8_t *characters, size_t characters_len);
 
+/* How many samples n bits last at a rate, without drift. Three numbers go to
+ * the front of `out`, if there is room for three: the quotient and the remainder
+ * of n x rate by 300, which are whole samples and three-hundredths of one, and
+ * the count rounded to the nearest sample, half away from zero, which is that of
+ * a sender's samples_for_bits. Returns 0; or, with `out` as it was, the first of
+ * these that applies:
+ *
+ *    1  a rate outside 8,000 to 48,000
+ *    7  n above 1,048,576
+ */
+uint32_t morkhetta_exact(
+    uint32_t rate,
+    uint64_t n,
+    uint64_t *out, size_t out_len
+);
+
+/* The same for lengths one behind the other, each a number of bits. Two numbers
+ * go to the front of `out`, if there is room for two: the quotient and the
+ * remainder of the total x rate by 300. Sums of rounded counts drift by up to
+ * half a sample a length; this one doesn't, and two of them joined, with a whole
+ * sample carried where the remainders make one, are that of both lists. Returns
+ * 0; or, with `out` as it was, the first of these that applies:
+ *
+ *    1  a rate outside 8,000 to 48,000
+ *   42  more than 1,000 lengths
+ *    7  a length above 1,048,576
+ */
+uint32_t morkhetta_exact_sum(
+    uint32_t rate,
+    const uint64_t *lengths, size_t lengths_len,
+    uint64_t *out, size_t out_len
+);
+
 #ifdef __cplusplus
 }
 #endif

@@ -19,7 +19,7 @@ use crate::shrink::{shrink, Case};
 use crate::side::{ORIGINAL, PORT};
 use crate::tally::{SentTally, Tally};
 use crate::text::Text;
-use crate::{broken, digits, refused, rooms, table, workers};
+use crate::{broken, digits, durations, refused, rooms, table, workers};
 
 /// All pairs of 20 kinds and 13 rates, twice.
 const ALL_CASES: usize = 520;
@@ -72,7 +72,7 @@ pub fn run(options: &Options) -> ExitCode {
         println!("    {reason}: {lines} lines");
     }
     let start = Instant::now();
-    let parts: [(&str, Part); 18] = [
+    let parts: [(&str, Part); 19] = [
         ("refused rates", refused_rates),
         ("refused boards", refused_boards),
         ("frames", frames),
@@ -90,6 +90,7 @@ pub fn run(options: &Options) -> ExitCode {
         ("board, clicks before calls", clicked_calls),
         ("table sender", |o| table::compare(o.seed, o.cases).map_err(plain)),
         ("digits", |o| digits::compare(o.seed, o.cases).map_err(plain)),
+        ("durations", |o| durations::compare(o.seed, o.cases).map_err(plain)),
         ("settings", |o| settings::compare(o.seed, o.cases.div_ceil(26)).map_err(plain)),
     ];
     for (name, part) in parts {

@@ -22,6 +22,7 @@ mod clock;
 mod compare;
 mod difference;
 mod digits;
+mod durations;
 #[cfg(test)]
 mod facts;
 mod frames;

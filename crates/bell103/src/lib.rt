@@ -1,7 +1,16 @@
-// Bell 103: roles, symbol rate and tones.
+// Bell 103: roles, symbol rate and tones; how many samples bits last.
 ghost use mathlib.Core.Path.{_≡_};
 ghost use Rattle.bell103.specs.Roles.{otherRole, tonesOf, samplesPerSymbol};
 use refusal::DSP_RATE;
+
+mod durations;
+
+pub use durations::Duration;
+pub use durations::Measure;
+pub use durations::Measured;
+pub use durations::Summed;
+pub use durations::exact;
+pub use durations::exact_sum;
 
 // Bell 103 symbol rate, in symbols a second.
 pub const BAUD: u32 = 300;

@@ -48,7 +48,7 @@ pub going-start : (t : Text) (bs : List ℕ) → Sound (t .decoder) → Going t 
 going-start t bs s = record { decoder = refl; lines = refl; sound = s }
 
 -- a count that holds, and then more
-min-add : (a k m : ℕ) → min (min a m + k) m ≡ min (a + k) m
+pub min-add : (a k m : ℕ) → min (min a m + k) m ≡ min (a + k) m
 min-add a k m = by (min-by a m)
   where
     by : ((a ≤ m) × (min a m ≡ a)) ⊎ ((m ≤ a) × (min a m ≡ m)) → min (min a m + k) m ≡ min (a + k) m

@@ -1,3 +1,4 @@
--- The definitions that the contracts of `console` cite: the words of a command, and text judged line by line.
+-- The definitions that the contracts of `console` cite: the words of a command, text judged line by line, and numbers one a line.
 pub mod Words
 pub mod Text
+pub mod Numbers

@@ -64,7 +64,7 @@ fn print_level(level: i16) -> bool {
 }
 
 // A space, and a number.
-fn print_field(n: u64) -> bool {
+pub fn print_field(n: u64) -> bool {
     if !io::write_all(1, b" ") {
         return false;
     }

@@ -1,3 +1,4 @@
 -- Laws that more than one proof of `ffi` cites.
 pub mod Showing
 pub mod Laying
+pub mod Telling

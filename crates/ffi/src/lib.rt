@@ -1,6 +1,7 @@
 // Functions for hosts in C and Rust, and for runs against the Rust original: each runs a whole list of calls from a fresh state.
 // include/morkhetta.h declares them.
 pub mod digits;
+pub mod durations;
 pub mod frames;
 pub mod listen;
 pub mod receive;

@@ -13,7 +13,13 @@ mod rx;
 mod samples;
 mod write;
 
+pub use bell103::Duration;
+pub use bell103::Measure;
+pub use bell103::Measured;
 pub use bell103::Role;
+pub use bell103::Summed;
+pub use bell103::exact;
+pub use bell103::exact_sum;
 pub use bell103::tones;
 pub use demodulation::Event;
 pub use demodulation::Kind;

@@ -23,6 +23,7 @@ pub enum Refusal {
     BitsWait,
     NoSettings,
     StoreFull,
+    TooManyLengths,
 }
 
 impl Refusal {
@@ -43,6 +44,7 @@ impl Refusal {
             Refusal::BitsWait => 33,
             Refusal::NoSettings => 40,
             Refusal::StoreFull => 41,
+            Refusal::TooManyLengths => 42,
         }
     }
 }
