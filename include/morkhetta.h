@@ -72,9 +72,14 @@ size_t morkhetta_max_output_len(
  * lengths. A call takes the next `length` samples of the input, or what is left
  * of it where that is less. It is lent the output behind the samples that the
  * earlier calls wrote, writes to the front of that, and its count is the number
- * of samples written. A refused call (3, or 5 where the rest of the output is
- * too short) writes no sample and leaves the resampler as it was; its samples
- * are passed over. Samples may be any f64: of a NaN only the bits are left open.
+ * of samples written. A call is refused by the first of these that applies:
+ *
+ *   3   more than 2,048 samples
+ *   43  a sample not finite or beyond -1 to 1
+ *   5   the rest of the output is shorter than max_output_len
+ *
+ * Refused, it writes no sample and leaves the resampler as it was; its samples
+ * are passed over.
  */
 size_t morkhetta_resample(
     uint32_t src,

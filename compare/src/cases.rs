@@ -167,7 +167,7 @@ impl ResamplerCase {
         let rate = rate_of(index, random);
         let (src, dst) = if random.once_in(2) { (rate, 8_000) } else { (8_000, rate) };
         let total = random.whole(0, 6_000) as usize;
-        let input = samples_of_any_kind(total, random);
+        let input = samples_and_wild_ones(total, random);
         // The limit is twice a receiver's, so even blocks are doubled as well.
         let lengths = match Cut::of(index) {
             Cut::Even(n) if random.once_in(2) => Cut::Even(2 * n),
@@ -257,19 +257,39 @@ impl TurnsCase {
     }
 }
 
-/// Samples for the bare resampler, which takes any f64.
-fn samples_of_any_kind(total: usize, random: &mut Random) -> Vec<f64> {
-    let odd =
-        [0.0, -0.0, 1.0, -1.0, 1e308, -1e308, 5e-324, f64::INFINITY, f64::NEG_INFINITY, f64::NAN];
+/// Samples that the bare resampler refuses, just beyond 1 and far beyond it,
+/// infinities and NaN of several bits.
+pub const WILD: [f64; 12] = [
+    f64::NAN,
+    f64::from_bits(0xFFF8_0000_0000_0000),
+    f64::from_bits(0x7FF0_0000_0000_0001),
+    f64::from_bits(0xFFFF_FFFF_FFFF_FFFF),
+    f64::INFINITY,
+    f64::NEG_INFINITY,
+    1.0 + f64::EPSILON,
+    -1.0 - f64::EPSILON,
+    1.5,
+    -2.0,
+    f64::MAX,
+    f64::MIN,
+];
+
+/// Samples that it takes at the edges of what it takes.
+const EDGES: [f64; 9] =
+    [0.0, -0.0, 1.0, -1.0, 5e-324, -5e-324, 1.0 - f64::EPSILON / 2.0, 1e-308, -1e-300];
+
+/// Samples for the bare resampler, in some cases with wild ones among them.
+fn samples_and_wild_ones(total: usize, random: &mut Random) -> Vec<f64> {
     let share = random.pick(&[0, 0, 2_000, 300, 10]);
-    let level = random.level(1e-6, 1e3);
+    let edges = random.pick(&[1_000, 30, 2]);
+    let level = random.level(1e-6, 1.0);
     let mut held = 0.0;
     (0..total)
         .map(|_| {
             if share > 0 && random.once_in(share) {
-                random.pick(&odd)
-            } else if share == 10 && random.once_in(2) {
-                f64::from_bits(random.next())
+                random.pick(&WILD)
+            } else if random.once_in(edges) {
+                random.pick(&EDGES)
             } else if random.once_in(5) {
                 held
             } else {

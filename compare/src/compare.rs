@@ -19,7 +19,7 @@ use crate::shrink::{shrink, Case};
 use crate::side::{ORIGINAL, PORT};
 use crate::tally::{SentTally, Tally};
 use crate::text::Text;
-use crate::{broken, digits, durations, refused, rooms, table, workers};
+use crate::{broken, digits, durations, refused, rooms, table, wild, workers};
 
 /// All pairs of 20 kinds and 13 rates, twice.
 const ALL_CASES: usize = 520;
@@ -72,7 +72,7 @@ pub fn run(options: &Options) -> ExitCode {
         println!("    {reason}: {lines} lines");
     }
     let start = Instant::now();
-    let parts: [(&str, Part); 19] = [
+    let parts: [(&str, Part); 21] = [
         ("refused rates", refused_rates),
         ("refused boards", refused_boards),
         ("frames", frames),
@@ -82,7 +82,9 @@ pub fn run(options: &Options) -> ExitCode {
         ("fresh receivers at every rate", fresh_receivers),
         ("fresh senders at every rate", fresh_senders),
         ("max_output_len at every rate", output_lengths),
+        ("taps at every rate", |_| wild::taps().map_err(plain)),
         ("resampler", resampler_cases),
+        ("wild samples at every place", |_| wild::samples().map_err(plain)),
         ("sender", sender_cases),
         ("from sender to receiver", loops),
         ("board", board_cases),
@@ -256,7 +258,7 @@ fn resampler_cases(options: &Options) -> Result<String, Found> {
         }
     })?;
     let seen = |number| told.iter().any(|r| r.answers.chunks_exact(TOLD).any(|a| a[0] == number));
-    reached(options, &[("refusal 3", seen(3)), ("refusal 5", seen(5))])?;
+    reached(options, &[("refusal 3", seen(3)), ("43", seen(43)), ("refusal 5", seen(5))])?;
     Ok(format!("{cases} cases, 0 differences"))
 }
 

@@ -6,11 +6,6 @@ use crate::layout::{HEARD, RESAMPLER_PARTS, SENDER, SENT, STATE, TOLD};
 /// The first difference between what the original and the port answered.
 pub type Difference = Option<String>;
 
-/// Bit for bit; only the bits of a NaN are left free.
-fn same(a: f64, b: f64) -> bool {
-    a.to_bits() == b.to_bits() || (a.is_nan() && b.is_nan())
-}
-
 fn differ<T: PartialEq + std::fmt::Debug>(what: &str, a: &T, b: &T) -> Difference {
     (a != b).then(|| format!("{what}: {a:?} from the original, {b:?} from the port"))
 }
@@ -28,7 +23,7 @@ fn in_answers(what: &str, names: &[&str], a: &[u64], b: &[u64]) -> Difference {
 }
 
 fn in_floats(a: &[f64], b: &[f64], name: &dyn Fn(usize) -> String) -> Difference {
-    let at = a.iter().zip(b).position(|(&a, &b)| !same(a, b))?;
+    let at = a.iter().zip(b).position(|(a, b)| a.to_bits() != b.to_bits())?;
     Some(format!(
         "{}: {:016X} ({:e}) from the original, {:016X} ({:e}) from the port",
         name(at),

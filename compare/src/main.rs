@@ -50,6 +50,7 @@ mod table;
 mod tally;
 mod text;
 mod vectors;
+mod wild;
 mod workers;
 
 use std::process::ExitCode;

@@ -2,8 +2,8 @@
 //!
 //! Slices in and slices out, with the same parameters as the port's C
 //! functions (`port.rs`). The original neither refuses nor bounds its queues;
-//! the refusals here are document 01's, in ascending order, and a refused call
-//! never reaches the original. The crate `again` compiles this file over its
+//! the refusals here are document 01's, in ascending order, and K8's, and a
+//! refused call never reaches the original. The crate `again` compiles this file over its
 //! own copy of the original.
 
 use original::carrier::Event;
@@ -139,6 +139,8 @@ pub fn resample(
 fn process(resampler: &mut Resampler, block: &[f64], room: &mut [f64]) -> Answer {
     if block.len() > MOST_RESAMPLED {
         Err(3)
+    } else if block.iter().any(|x| !(-1.0..=1.0).contains(x)) {
+        Err(43)
     } else if room.len() < resampler.max_output_len(block.len()) {
         Err(5)
     } else {

@@ -4,7 +4,7 @@
 //! without them; the state at the end must be the same; and at two of the refused
 //! calls the state before is the state behind.
 
-use crate::cases::{rate_of, Heard, ReceiverCase, Turned, TurnsCase};
+use crate::cases::{rate_of, Heard, ReceiverCase, Turned, TurnsCase, WILD};
 use crate::difference::{of_heard, of_turned};
 use crate::layout::*;
 use crate::random::Random;
@@ -265,11 +265,22 @@ pub fn of_a_full_receiver(rate: u32, role: u32) -> Result<(), String> {
 }
 
 /// A list of calls of the resampler that are accepted, and the same with refused
-/// ones between: 3, or 5 since more samples come than all of the output holds.
+/// ones between, and the number that each of these gets.
 struct Turns {
     plain: TurnsCase,
     with: TurnsCase,
-    refused: Vec<usize>,
+    refused: Vec<(usize, u64)>,
+}
+
+/// Samples that get 3, 43, or 5 since more come than all of the output holds; or
+/// several apply.
+fn refused_block(random: &mut Random) -> (Vec<f64>, u64) {
+    let (n, number) = random.pick(&[(2_049, 3), (2_100, 3), (2_048, 5), (2_048, 43), (40, 43)]);
+    let mut block: Vec<f64> = (0..n).map(|_| random.between(-1.0, 1.0)).collect();
+    if number == 43 || number == 3 && random.once_in(2) {
+        block[random.whole(0, n - 1) as usize] = random.pick(&WILD);
+    }
+    (block, number)
 }
 
 impl Turns {
@@ -283,9 +294,9 @@ impl Turns {
             turns.with.push(&block);
             turns.plain.room += (n * dst).div_ceil(src) as usize + 2;
             while random.once_in(2) {
-                let n = random.pick(&[2_048, 2_049, 2_100]) as usize;
-                turns.refused.push(turns.with.script.len() / TURN);
-                turns.with.push(&vec![random.pick(&[0.5, f64::NAN, 1e300]); n]);
+                let (block, number) = refused_block(random);
+                turns.refused.push((turns.with.script.len() / TURN, number));
+                turns.with.push(&block);
             }
         }
         turns.with.room = turns.plain.room;
@@ -294,7 +305,8 @@ impl Turns {
 }
 
 impl TurnsCase {
-    fn push(&mut self, block: &[f64]) {
+    /// One call more, with these samples.
+    pub fn push(&mut self, block: &[f64]) {
         self.input.extend(block);
         self.script.extend([PROCESS, block.len() as u32]);
         self.answers += TOLD;
@@ -312,7 +324,7 @@ impl TurnsCase {
     }
 }
 
-/// The refused calls of a resampler, 3 and 5, likewise.
+/// The refused calls of a resampler, 3, 43 and 5, likewise.
 pub fn of_a_resampler(index: usize, random: &mut Random) -> Result<usize, String> {
     let rate = rate_of(index, random);
     let (src, dst) = if index % 2 == 0 { (rate, 8_000) } else { (8_000, rate) };
@@ -321,17 +333,17 @@ pub fn of_a_resampler(index: usize, random: &mut Random) -> Result<usize, String
     let without = turns.plain.behind(turns.plain.script.len() / TURN)?;
     let mut kept: Vec<u64> = Vec::new();
     for (call, answer) in with.resampled.answers.chunks_exact(TOLD).enumerate() {
-        if !turns.refused.contains(&call) {
-            kept.extend(answer);
-        } else if ![[3, 0], [5, 0]].contains(&[answer[0], answer[1]]) {
-            return Err(format!("{src} to {dst}: call {call} is answered by {answer:?}"));
+        match turns.refused.iter().find(|(refused, _)| *refused == call) {
+            None => kept.extend(answer),
+            Some(&(_, number)) if answer == [number, 0] => {}
+            _ => return Err(format!("{src} to {dst}: call {call} is answered by {answer:?}")),
         }
     }
     let alike = bits(&with.resampled.output) == bits(&without.resampled.output);
     if kept != without.resampled.answers || !alike || bits(&with.state) != bits(&without.state) {
         return Err(format!("{src} to {dst}: a refused call changes what comes after it"));
     }
-    for &call in turns.refused.iter().take(2) {
+    for &(call, _) in turns.refused.iter().take(2) {
         let (before, behind) = (turns.with.behind(call)?, turns.with.behind(call + 1)?);
         if bits(&before.state) != bits(&behind.state) {
             return Err(format!("{src} to {dst}: refused call {call} changes the state"));

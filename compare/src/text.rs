@@ -41,8 +41,7 @@
 //!
 //! What is printed has one line for each call, with 0 or the number of the
 //! refusal, or a count, and of a sender whether bits wait afterwards; and behind
-//! a resampler's call or a sender's G one line for each sample's bits. Of a NaN
-//! only that it is one.
+//! a resampler's call or a sender's G one line for each sample's bits.
 
 use std::fmt::Write;
 
@@ -301,11 +300,7 @@ fn counted(told: &[u64]) -> String {
 }
 
 fn bits_of(y: f64) -> String {
-    if y.is_nan() {
-        "nan".into()
-    } else {
-        format!("{:016x}", y.to_bits())
-    }
+    format!("{:016x}", y.to_bits())
 }
 
 /// The bits of an f32 without its sign.

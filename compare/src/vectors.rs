@@ -365,18 +365,19 @@ pub fn resampler(text: &mut Text) {
         let case = ResamplerCase { src, dst, input, lengths, room, answers };
         text.resampler(&case, &case.run(&ORIGINAL));
     }
-    unusual_samples(text);
+    wild_samples(text);
     refused_resampler(text);
     output_lengths(text, &mut random);
 }
 
-/// Any f64 is taken.
-fn unusual_samples(text: &mut Text) {
-    text.remark("samples beyond 1, infinities and NaN are taken");
+/// Wild samples are refused, each call, and the next call goes on from before.
+fn wild_samples(text: &mut Text) {
+    text.remark("samples beyond 1, infinities and NaN get 43; from -1 to 1 they are taken");
     for (src, dst) in [(12_000, 8_000), (8_000, 12_000), (8_000, 8_000)] {
         let mut input = vec![3.0, -1e300, 1e308, 1e308, 0.5, f64::INFINITY, 0.25, 2.0];
         input.extend([f64::NEG_INFINITY, 1.0, f64::NAN, 0.125, -0.0, 0.0]);
-        let lengths = vec![4, 6, 4];
+        input.extend([1.0, -1.0, 0.5, -0.25, 1.0, 0.0, -0.0, 0.75]);
+        let lengths = vec![4, 6, 4, 8];
         let answers = TOLD * lengths.len();
         let case = ResamplerCase { src, dst, input, lengths, room: 30, answers };
         text.resampler(&case, &case.run(&ORIGINAL));

@@ -11,7 +11,7 @@ use Rattle.refusal.specs.Refusals.{Reply, replyOf, first, rateRefused}
 use Rattle.happenings.specs.Happening.{bytesIn, badStopsIn}
 use Rattle.happenings.specs.declared.happening.Happening.{Happening}
 use Rattle.demodulation.specs.declared.kind.Kind.the-variants.{ForBoard}
-use Rattle.modem.specs.Samples.{allInRange}
+use Rattle.numeric.specs.Convert.{allInRange}
 use Rattle.modem.specs.Listener.{Demod, Heard, heardBy, freshDemod, admitted}
 use Rattle.tide.specs.Judge.{Shown}
 use Rattle.tide.specs.Decoder.{Line, Decoder, freshDecoder, tookAll, linesIn, verdictsIn, lastOf}

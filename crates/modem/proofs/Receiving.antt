@@ -13,7 +13,7 @@ use Rattle.refusal.proofs.RefusalLaws.{accepted-none}
 use Rattle.resampling.specs.Resample.{State, Made, made, newOf, fresh, state}
 use Rattle.modem.specs.Rx.{Receiver, refusalOf, acceptedWrite, wrote, written, unlessRefused}
 use Rattle.modem.specs.Write.{refusedBy}
-use Rattle.modem.specs.Samples.{allInRange}
+use Rattle.numeric.specs.Convert.{allInRange}
 use Rattle.happenings.specs.Happening.{bytesIn}
 use Rattle.modem.specs.Listener.{Demod, heardBy, Listens}
 use Rattle.modem.proofs.RxLaws.{heard-most}

@@ -10,7 +10,7 @@ use lib.Ieee.{Float}
 use Rattle.numeric.specs.If.{if_then_else_}
 use Rattle.refusal.specs.Refusals.{dspRate, given, refused, first, replyOf, rateRefused}
 use Rattle.refusal.proofs.RefusalLaws.{first-yes, first-no}
-use Rattle.modem.specs.Samples.{allInRange}
+use Rattle.numeric.specs.Convert.{allInRange}
 use Rattle.modem.specs.Queue.{mostBytes}
 use Rattle.modem.proofs.QueueLaws.{queued-length}
 use Rattle.resampling.specs.ResampleRep.{stateOf}

@@ -13,7 +13,7 @@ use Rattle.resampling.specs.Resample as resample
 use Rattle.demodulation.specs.Demod.{Demodulator, hearing, freshDemodulator, Tuned}
 use Rattle.happenings.specs.Happening.{badStopsIn}
 use Rattle.happenings.specs.declared.happening.Happening.{Happening}
-use Rattle.modem.specs.Samples.{allInRange}
+use Rattle.numeric.specs.Convert.{allInRange}
 use Rattle.modem.specs.Hear.{resampled}
 use Rattle.bell103.specs.declared.Role.{Role}
 use Rattle.demodulation.specs.declared.kind.Kind.{Kind}

@@ -1,15 +1,8 @@
 -- The samples of a call. One type of floats serves f32 and f64, so the samples widened are the same list. Assumes nothing.
 use mathlib.Core.Path.{_≡_}
-use mathlib.Core.Bool.{Bool, true, _&&_}
-use mathlib.Core.List.{List, [], _∷_}
+use mathlib.Core.List.{List}
 use lib.Ieee.{Float}
 use lib.ListN.{length, take, drop}
-use Rattle.numeric.specs.Convert.{inRange}
-
--- not refused with 4, "a sample not finite or beyond ±1"
-unfoldable pub allInRange : List Float → Bool
-allInRange [] = true
-allInRange (x ∷ xs) = inRange x && allInRange xs
 
 -- the samples stand at the front of an array, the rest of which is as it was
 pub record Widened (samples before after : List Float) : Type 0 where

@@ -6,7 +6,7 @@ use lib.Dec.{ltb}
 use lib.ListN.{length}
 use lib.Ieee.{Float}
 use Rattle.refusal.specs.Refusals.{first}
-use Rattle.modem.specs.Samples.{allInRange}
+use Rattle.numeric.specs.Convert.{allInRange}
 
 -- of a list of samples, where so many were accepted and so many bytes wait:
 -- "3 more than 1,024 samples. 4 a sample not finite or beyond ±1. 31 the call would pass 4,294,967,296 samples for this receiver.

@@ -4,7 +4,8 @@ use numeric::convert::widen;
 ghost use mathlib.Core.Path.{_≡_};
 ghost use Prim.Native.Nat.{_≤_};
 ghost use lib.ListN.{length};
-ghost use Rattle.modem.specs.Samples.{allInRange, Widened};
+ghost use Rattle.numeric.specs.Convert.{allInRange};
+ghost use Rattle.modem.specs.Samples.{Widened};
 
 // Whether each sample is finite and within ±1.
 pub fn all_in_range(samples: &[f32]) -> bool

@@ -1,8 +1,10 @@
--- Laws that other crates cite: of floats, their bounds and intervals, of counts, of sines, of lists, tests and loops; and values worked out.
+-- Laws that other crates cite: of floats, their bounds, intervals and sizes, of samples, of counts, of sines, of lists, tests and loops; and values worked out.
 pub mod Whole
 pub mod BoundLaws
 pub mod Signed
 pub mod IntervalLaws
+pub mod SizeLaws
+pub mod RangeLaws
 pub mod RoundingLaws
 pub mod CountLaws
 pub mod SinesLaws

@@ -197,7 +197,7 @@ turned false true a b h = omega arith
 turned true false a b h = omega arith
 turned true true a b h = omega arith
 
-neg-le : (x y : Float) → T (x ≤ᶠ y) → T (neg y ≤ᶠ neg x)
+pub neg-le : (x y : Float) → T (x ≤ᶠ y) → T (neg y ≤ᶠ neg x)
 unfolding le lt eq neg
 neg-le nan y h = absurd h
 neg-le (inf s) nan h = absurd h
@@ -225,7 +225,7 @@ units-neg f q k = go (ltb (q * 2 ^ k) (2 ^ (low f + suc (emax f)))) q
     go false q = refl
 
 -- both signs are rounded alike
-round-neg : (a c : ℕ) → round binary64 true a c ≡ neg (round binary64 false a c)
+pub round-neg : (a c : ℕ) → round binary64 true a c ≡ neg (round binary64 false a c)
 round-neg a c = round-is binary64 true a c ∙ units-neg binary64 _ _ ∙ ap neg (sym (round-is binary64 false a c))
 
 across : (x y : Float) → T (upward x) → T (upward y) → T (neg x ≤ᶠ y)

@@ -1,9 +1,11 @@
--- Bounds on floats with no minus sign, as fractions. Assumes nothing.
-use Prim.Native.Nat.{ℕ, _*_, _≤_}
+-- Bounds on floats, as fractions: of those with no minus sign, and of the size of either. Assumes nothing.
+use Prim.Native.Nat.{ℕ, _*_, _^_, _≤_}
 use mathlib.Core.Bool.{Bool, false, not}
+use mathlib.Core.List.{List, [], _∷_}
 use lib.Dec.{T}
 use lib.Ieee.{Float, nan, inf, fin}
 use lib.Ieee.Positive.{num, den}
+use lib.Ieee.Scale.{finite}
 
 -- finite, with no minus sign: its value is num x / den x
 abbrev pub nonNegative : Float → Bool
@@ -19,3 +21,13 @@ pub record AtMost (x : Float) (q c : ℕ) : Type 0 where
 pub record AtLeast (x : Float) (q c : ℕ) : Type 0 where
   pub is : T (nonNegative x)
   pub over : q * den x ≤ num x * c
+
+-- finite, of either sign, and at most 2 ^ n in size
+pub record Small (n : ℕ) (x : Float) : Type 0 where
+  pub is : T (finite x)
+  pub under : num x ≤ 2 ^ n * den x
+
+-- each of a list is
+abbrev pub AllSmall : ℕ → List Float → Type 0
+AllSmall n [] = Unit
+AllSmall n (x ∷ xs) = Small n x × AllSmall n xs

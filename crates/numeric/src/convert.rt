@@ -84,3 +84,10 @@ pub fn in_range(x: f32) -> bool
 {
     if x >= -1.0 { x <= 1.0 } else { false }
 }
+
+// The same of an f64.
+pub fn wide_in_range(sample: f64) -> bool
+    ensures { λ r. ⌜ r ≡ inRange sample ⌝ }
+{
+    if sample >= -1.0 { sample <= 1.0 } else { false }
+}

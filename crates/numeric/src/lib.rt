@@ -5,7 +5,7 @@
 //   sine      sine, cosine, TAU, PI                 specs/Sine.antt
 //   sines     four sines side by side               specs/Sines.antt
 //   root      root, roots, for `hypot`              specs/Root.antt
-//   convert   widen, narrow, in_range               specs/Convert.antt; the bits by which `narrow` works: specs/Patterns.antt
+//   convert   widen, narrow, in_range, wide_in_range   specs/Convert.antt; the bits by which `narrow` works: specs/Patterns.antt
 //   counts    nearest, ceiling: rounded quotients   specs/Counts.antt
 //   ends      where a part of a slice ends
 //

@@ -24,6 +24,7 @@ pub enum Refusal {
     NoSettings,
     StoreFull,
     TooManyLengths,
+    WildSample,
 }
 
 impl Refusal {
@@ -45,6 +46,7 @@ impl Refusal {
             Refusal::NoSettings => 40,
             Refusal::StoreFull => 41,
             Refusal::TooManyLengths => 42,
+            Refusal::WildSample => 43,
         }
     }
 }

@@ -1,7 +1,7 @@
 -- What the resampler's public functions give, by the tests that lead there. Assumes nothing.
 use Prim.Native.Nat.{ℕ, _+_, _-_, _<_, _≤_}
 use mathlib.Core.Path.{_≡_, refl, sym, ap, _∙_}
-use mathlib.Core.Bool.{Bool, true, false, _||_, true≢false}
+use mathlib.Core.Bool.{Bool, true, false, not, _||_, true≢false}
 use mathlib.Core.List.{List, _++_}
 use native.Mathlib.Omega.{arith}
 use borrow.Author.Tests.{lt-ltb, le-ltb, ltb-false}
@@ -9,6 +9,7 @@ use lib.Dec.{eqb, ltb}
 use lib.ListN.{length, take, drop, replicate}
 use lib.Seq.{length-take-le, sets-eq}
 use lib.Ieee.{Float}
+use Rattle.numeric.specs.Convert.{allInRange}
 use Rattle.resampling.specs.Design.{mostTaps}
 use Rattle.numeric.specs.F64.{zero64}
 use Rattle.refusal.specs.Refusals.{given, refused, first, rateRefused, ratesRefused, dspRate, highestRate}
@@ -77,11 +78,17 @@ module _ (s : State) (xs o : List Float) where
   unfolding ranOver
   ran-into f t ef e et = rw (e, et, ef, whole-run (filterOf (s .src) (s .dst)) xs (s .flow) o)
 
-  module _ (short : length xs ≤ 2048) (b : ℕ) (is : b ≡ maxOutputLen (s .src) (s .dst) (length xs)) where
-    pub no-room : length o < b → outcome (refused 5) s o ≡ processed s xs o
+  -- r is what the test of the samples gave
+  module _ (short : length xs ≤ 2048) (r : Bool) (tested : r ≡ allInRange xs) where
+    pub wild : not r ≡ true → outcome (refused 43) s o ≡ processed s xs o
     unfolding processed refusalOf tooMany first
-    no-room h = rw (le-ltb _ _ short, ← is, lt-ltb _ _ h)
+    wild w = rw (le-ltb _ _ short, ← tested, w)
 
-    pub went : (p : Outcome) → b ≤ length o → p ≡ ranInto s xs o → p ≡ processed s xs o
-    unfolding processed refusalOf tooMany first
-    went p room e = rw (le-ltb _ _ short, ← is, le-ltb _ _ room) e
+    module _ (tame : not r ≡ false) (b : ℕ) (is : b ≡ maxOutputLen (s .src) (s .dst) (length xs)) where
+      pub no-room : length o < b → outcome (refused 5) s o ≡ processed s xs o
+      unfolding processed refusalOf tooMany first
+      no-room h = rw (le-ltb _ _ short, ← tested, tame, ← is, lt-ltb _ _ h)
+
+      pub went : (p : Outcome) → b ≤ length o → p ≡ ranInto s xs o → p ≡ processed s xs o
+      unfolding processed refusalOf tooMany first
+      went p room e = rw (le-ltb _ _ short, ← tested, tame, ← is, le-ltb _ _ room) e

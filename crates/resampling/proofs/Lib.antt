@@ -11,3 +11,5 @@ pub mod NumberLaws
 pub mod Settled
 pub mod Flowing
 pub mod Starving
+pub mod Sizes
+pub mod FiniteLaws

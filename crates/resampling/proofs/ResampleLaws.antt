@@ -13,6 +13,7 @@ use lib.Ieee.{Float}
 use Rattle.numeric.specs.If.{if_then_else_}
 use Rattle.numeric.specs.Counts.{outputLen}
 use Rattle.refusal.specs.Refusals.{first, given}
+use Rattle.numeric.specs.Convert.{allInRange}
 use Rattle.resampling.specs.Flow.{ran, fed}
 use Rattle.resampling.proofs.FlowLaws.{fed-length}
 use Rattle.resampling.specs.Resample.{State, state, filterOf, maxOutputLen, tooMany, refusalOf, ranOver, laid, ranInto, Outcome, outcome, processed}
@@ -28,14 +29,15 @@ ran-none s room = by (eqb (s .src) (s .dst)) room
     by false n = refl
 
 -- ---- a call that no check refuses
-pub not-refused : (s : State) (xs out : List Float) → length xs ≤ 2048 → maxOutputLen (s .src) (s .dst) (length xs) ≤ length out → refusalOf s xs out ≡ 0
+pub not-refused : (s : State) (xs out : List Float) → length xs ≤ 2048 → allInRange xs ≡ true → maxOutputLen (s .src) (s .dst) (length xs) ≤ length out
+    → refusalOf s xs out ≡ 0
 unfolding refusalOf tooMany first
-not-refused s xs out h l = rw (le-ltb _ _ h, le-ltb _ _ l)
+not-refused s xs out h t l = rw (le-ltb _ _ h, t, le-ltb _ _ l)
 
-pub accepted : (s : State) (xs out : List Float) → length xs ≤ 2048 → maxOutputLen (s .src) (s .dst) (length xs) ≤ length out
+pub accepted : (s : State) (xs out : List Float) → length xs ≤ 2048 → allInRange xs ≡ true → maxOutputLen (s .src) (s .dst) (length xs) ≤ length out
     → processed s xs out ≡ laid s out (ranOver s (length out) xs)
 unfolding processed
-accepted s xs out h l = rw (not-refused s xs out h l)
+accepted s xs out h t l = rw (not-refused s xs out h t l)
 
 -- ---- "Equal rates copy": the samples themselves, where there is room for them, and nothing moves
 equal-rates-run : (s : State) (room : ℕ) (xs : List Float) → eqb (s .src) (s .dst) ≡ true → length xs ≤ room → ranOver s room xs ≡ ran xs (s .flow)
@@ -51,10 +53,10 @@ pub equal-rates : (s : State) (xs : List Float) → eqb (s .src) (s .dst) ≡ tr
 equal-rates s xs e = rw (equal-rates-len (s .src) (s .dst) (length xs) e) (equal-rates-run s (length xs) xs e (le-refl _))
 
 -- a whole call of n samples into an output with room for them
-pub equal-rates-process : (s : State) (xs out : List Float) → eqb (s .src) (s .dst) ≡ true → length xs ≤ 2048 → length xs ≤ length out
+pub equal-rates-process : (s : State) (xs out : List Float) → eqb (s .src) (s .dst) ≡ true → length xs ≤ 2048 → allInRange xs ≡ true → length xs ≤ length out
     → processed s xs out ≡ outcome (given (length xs)) s (xs ++ drop (length xs) out)
-equal-rates-process s xs out e h l =
-    let r = accepted s xs out h (rw (equal-rates-len (s .src) (s .dst) (length xs) e) l) in
+equal-rates-process s xs out e h t l =
+    let r = accepted s xs out h t (rw (equal-rates-len (s .src) (s .dst) (length xs) e) l) in
     r ∙ ap (laid s out) (equal-rates-run s (length out) xs e l)
 
 -- ---- going down to 8,000, n samples make n + 2 at most

@@ -1,4 +1,5 @@
--- The definitions that the contracts of `resampling` cite: the filter's design and its sums, a flow of samples, the resampler; `..Rep`: how the code holds them.
+-- The definitions that the contracts of `resampling` cite: the filter's design and its sums, a flow of samples, the resampler, lists of its calls;
+-- `..Rep`: how the code holds them.
 pub mod Design
 pub mod Filter
 pub mod FilterRep
@@ -6,4 +7,5 @@ pub mod Flow
 pub mod FlowRep
 pub mod Resample
 pub mod ResampleRep
+pub mod Finite
 pub mod Numbers

@@ -1,7 +1,7 @@
 -- The resampler (resample.rs) between 8,000 and another rate. What it does with its samples is said in specs/Flow.antt, and how the
 -- code holds its state in specs/ResampleRep.antt. Assumes nothing.
 use Prim.Native.Nat.{ℕ, zero, suc}
-use mathlib.Core.Bool.{Bool}
+use mathlib.Core.Bool.{Bool, not}
 use mathlib.Core.List.{List, [], _++_}
 use lib.ListN.{length, take, drop, replicate}
 use lib.Dec.{ltb, eqb}
@@ -9,6 +9,7 @@ use lib.Ieee.{Float}
 use Rattle.numeric.specs.F64.{_⊘_, whole, zero64}
 use Rattle.numeric.specs.If.{if_then_else_}
 use Rattle.numeric.specs.Counts.{outputLen}
+use Rattle.numeric.specs.Convert.{allInRange}
 use Rattle.resampling.specs.Design.{lowpass}
 use Rattle.resampling.specs.Flow.{Filter, Flow, flow, Ran, ran, fed, zeroWindow}
 use Rattle.refusal.specs.Refusals.{Reply, given, refused, first, ratesRefused, dspRate}
@@ -80,9 +81,12 @@ pub record Outcome : Type 0 where
 abbrev pub outcome : Reply ℕ → State → List Float → Outcome
 outcome a s o = record { answer = a; state = s; out = o }
 
--- "3 more than 2,048 samples. 5 resampler output shorter than max_output_len"
+-- "3 more than 2,048 samples. 5 resampler output shorter than max_output_len"; K8: "43 for a sample not finite or beyond ±1, after 3 and before 5"
 unfoldable pub refusalOf : State → List Float → List Float → ℕ
-refusalOf s xs out = first (tooMany (length xs)) 3 (first (ltb (length out) (maxOutputLen (s .src) (s .dst) (length xs))) 5 0)
+refusalOf s xs out =
+    first (tooMany (length xs)) 3
+    (first (not (allInRange xs)) 43
+    (first (ltb (length out) (maxOutputLen (s .src) (s .dst) (length xs))) 5 0))
 
 -- the samples that an input makes, as far as there is room, "Equal rates copy"
 unfoldable pub ranOver : State → ℕ → List Float → Ran

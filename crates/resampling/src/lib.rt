@@ -1,5 +1,6 @@
 // Between a device rate and 8,000 samples a second (resample.rs). What is inside is private:
 //
+//   range      the test of samples                         numeric specs/Convert.antt
 //   design     the taps of the low-pass filter              specs/Design.antt
 //   filter     the filter's sums over a ring of samples     specs/Filter.antt, FilterRep.antt
 //   hermite    the interpolation between four samples       specs/Filter.antt
@@ -12,6 +13,7 @@ mod feed;
 mod filter;
 mod hermite;
 mod numbers;
+mod range;
 mod resample;
 mod sample;
 

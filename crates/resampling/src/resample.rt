@@ -8,6 +8,7 @@ use crate::feed::copy;
 use crate::feed::feed;
 use crate::numbers::cleared;
 use crate::numbers::newest_first;
+use crate::range::all_in_range;
 use crate::sample::Moving;
 use numeric::counts::nearest;
 use refusal::Acceptance;
@@ -182,6 +183,12 @@ impl Resampler {
                 state: self,
             };
         }
+        if !all_in_range(input) {
+            return Processed {
+                answer: Counted::Refused(Refusal::WildSample),
+                state: self,
+            };
+        }
         let need = output_len(self.identity, self.src_rate, self.dst_rate, count);
         if output.len() < need {
             return Processed {
@@ -197,7 +204,7 @@ impl Resampler {
         }
     }
 
-    // The same with no check, for callers that know their lengths: an output that is too short is filled as far as it goes.
+    // The same with no check, for receiver and sender, which know their lengths and samples: an output that is too short is filled as far as it goes.
     pub fn run(self, input: &[f64], output: &mut [f64]) -> Produced
         requires { ⌜ Sound self ⌝ }
         ensures { λ r. ⌜ producedOf r (now (output .exit)) ≡ ranInto (stateOf self) (now (input .entry)) (now (output .entry)) ⌝ }

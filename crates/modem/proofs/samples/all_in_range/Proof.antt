@@ -1,32 +1,12 @@
 -- The invariant: the samples from place i on are in range exactly where all are. Assumes nothing.
-use Prim.Native.Nat.{ℕ, _≤_, _-_, _+_, _<_}
-use mathlib.Core.Bool.{Bool, true, false, not}
-use mathlib.Core.List.{List}
+use Prim.Native.Nat.{_≤_, _-_}
 use mathlib.Core.Path.{_≡_, refl, sym, _∙_}
-use native.Mathlib.Numerals.{add-one}
-use lib.Ieee.{Float}
-use lib.ListN.{length, drop, getD, drop-of-length-le}
-use lib.Seq.{drop-cons}
+use lib.ListN.{length, drop}
 use borrow.Author.Needs.{needs}
-use Rattle.numeric.specs.Convert.{inRange}
-use Rattle.modem.specs.Samples.{allInRange}
+use Rattle.numeric.specs.Convert.{allInRange}
+use Rattle.numeric.proofs.RangeLaws.{range-fails, range-passes, range-ends}
 use Rattle.modem.proofs.samples.all_in_range.Statement.{statement}
 use Rattle.modem.proofs.samples.all_in_range.Tie as tie
-
--- the samples from place i on, by what the test of the one there gave
-fails : (r : Bool) (s : List Float) (i : ℕ) (d : Float) → i < length s → r ≡ inRange (getD s i d) → not r ≡ true → allInRange (drop i s) ≡ false
-unfolding allInRange
-fails true s i d h e p = cc
-fails false s i d h e p = rw (drop-cons s i d h, ← e)
-
-passes : (r : Bool) (s : List Float) (i : ℕ) (d : Float) → i < length s → r ≡ inRange (getD s i d) → not r ≡ false → allInRange (drop i s) ≡ allInRange (drop (i + 1) s)
-unfolding allInRange
-passes true s i d h e p = rw (add-one, drop-cons s i d h, ← e)
-passes false s i d h e p = cc
-
-ends : (s : List Float) (i : ℕ) → length s ≤ i → allInRange (drop i s) ≡ true
-unfolding allInRange
-ends s i h = rw (drop-of-length-le s h)
 
 abbrev Inv-loop : tie.InvT-loop
 Inv-loop samples i₀ i = (i ≤ length samples) × (allInRange (drop i samples) ≡ allInRange samples)
@@ -49,7 +29,7 @@ in-range-requires c κs = search needs
 returns : tie.Need-returns Inv-loop μ-loop
 returns c =
     let l = c .before .before .before .before .loop in
-    sym (fails (c .before .in-range .result) _ (l .i) _ (search needs) (c .before .in-range .ensures) (c .if1 .taken)) ∙ l .inv .1
+    sym (range-fails (c .before .in-range .result) _ (l .i) _ (search needs) (c .before .in-range .ensures) (c .if1 .taken)) ∙ l .inv .1
 
 add-i : tie.Need-add-i Inv-loop μ-loop
 add-i c = search needs
@@ -60,12 +40,12 @@ loop-less c = search needs
 loop-again : tie.Need-loop-again Inv-loop μ-loop
 loop-again c =
     let l = c .before .before .before .before .loop in
-    (search needs, sym (passes (c .before .in-range .result) _ (l .i) _ (search needs) (c .before .in-range .ensures) (c .if1 .left)) ∙ l .inv .1)
+    (search needs, sym (range-passes (c .before .in-range .result) _ (l .i) _ (search needs) (c .before .in-range .ensures) (c .if1 .left)) ∙ l .inv .1)
 
 returns-2 : tie.Need-returns-2 Inv-loop μ-loop
 returns-2 c =
     let l = c .before .loop in
-    sym (ends (c .before .before .before .args .samples .now) (l .i) (search needs)) ∙ l .inv .1
+    sym (range-ends (c .before .before .before .args .samples .now) (l .i) (search needs)) ∙ l .inv .1
 
 pub all-in-range-spec : {M : Type 1} → statement M
 all-in-range-spec =
