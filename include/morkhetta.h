@@ -453,6 +453,38 @@ uint32_t morkhetta_exact_sum(
     uint64_t *out, size_t out_len
 );
 
+/* The line charge, in thousandths of a penny: 0 for a call of no samples, else
+ * 4,000 and 1,250 for each started 30 seconds (30 x rate samples).
+ *
+ * The charge of one call goes to the front of `charge`, if there is room for
+ * one number. Returns 0; or, with nothing written, the first of these that
+ * applies:
+ *
+ *    1  a rate outside 8,000 to 48,000
+ *   45  more than 4,294,967,296 samples
+ */
+uint32_t morkhetta_call_charge(
+    uint32_t rate,
+    uint64_t samples,
+    uint64_t *charge, size_t charge_len
+);
+
+/* The charge of a month's calls, all at one rate. Three numbers go to the front
+ * of `charge`, if there is room for three: the sum in thousandths of a penny,
+ * the pence, half a penny going up, and what was rounded away, sum - 1,000 x
+ * pence, from -500 to 499. Returns 0; or, with nothing written, the first of
+ * these that applies:
+ *
+ *    1  a rate outside 8,000 to 48,000
+ *   44  more than 5,000 calls
+ *   45  a call of more than 4,294,967,296 samples
+ */
+uint32_t morkhetta_month_charge(
+    uint32_t rate,
+    const uint64_t *calls, size_t calls_len,
+    int64_t *charge, size_t charge_len
+);
+
 #ifdef __cplusplus
 }
 #endif

@@ -19,7 +19,7 @@ use crate::shrink::{shrink, Case};
 use crate::side::{ORIGINAL, PORT};
 use crate::tally::{SentTally, Tally};
 use crate::text::Text;
-use crate::{broken, digits, durations, refused, rooms, table, wild, workers};
+use crate::{broken, charges, digits, durations, refused, rooms, table, wild, workers};
 
 /// All pairs of 20 kinds and 13 rates, twice.
 const ALL_CASES: usize = 520;
@@ -72,7 +72,7 @@ pub fn run(options: &Options) -> ExitCode {
         println!("    {reason}: {lines} lines");
     }
     let start = Instant::now();
-    let parts: [(&str, Part); 21] = [
+    let parts: [(&str, Part); 22] = [
         ("refused rates", refused_rates),
         ("refused boards", refused_boards),
         ("frames", frames),
@@ -94,6 +94,7 @@ pub fn run(options: &Options) -> ExitCode {
         ("digits", |o| digits::compare(o.seed, o.cases).map_err(plain)),
         ("durations", |o| durations::compare(o.seed, o.cases).map_err(plain)),
         ("settings", |o| settings::compare(o.seed, o.cases.div_ceil(26)).map_err(plain)),
+        ("charges", |o| charges::compare(o.seed, o.cases).map_err(plain)),
     ];
     for (name, part) in parts {
         if options.only.is_some() && name != "receiver" || !name.starts_with(&options.part) {

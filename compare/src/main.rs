@@ -17,6 +17,7 @@
 mod boards;
 mod broken;
 mod cases;
+mod charges;
 mod clicks;
 mod clock;
 mod compare;

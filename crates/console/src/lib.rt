@@ -13,6 +13,7 @@ pub use text::one_more;
 pub use text::print_answer;
 pub use text::print_field;
 pub use text::print_reading;
+pub use text::print_signed;
 pub use text::run;
 pub use words::Named;
 pub use words::number_word;

@@ -42,25 +42,25 @@ pub fn print_answer(line: u64, answer: u8) -> bool {
     io::write_all(1, b"\n")
 }
 
-// A level without its sign.
-fn magnitude(level: i16) -> u16
-    ensures { λ r. ⌜ r ≡ natAbs level ⌝ }
+// A number without its sign.
+fn magnitude(n: i16) -> u16
+    ensures { λ r. ⌜ r ≡ natAbs n ⌝ }
 {
-    if level < 0 {
-        let k = (-1 - level) as u16;
+    if n < 0 {
+        let k = (-1 - n) as u16;
         return k + 1;
     }
-    level as u16
+    n as u16
 }
 
-// Centimetres, with a sign where they are below zero.
-fn print_level(level: i16) -> bool {
-    if level < 0 {
+// A number, with a sign where it is below zero.
+pub fn print_signed(n: i16) -> bool {
+    if n < 0 {
         if !io::write_all(1, b"-") {
             return false;
         }
     }
-    io::print_decimal(1, magnitude(level) as u64)
+    io::print_decimal(1, magnitude(n) as u64)
 }
 
 // A space, and a number.
@@ -82,7 +82,7 @@ fn print_fields(station: u16, reading: Reading) -> bool {
     if !io::write_all(1, b" ") {
         return false;
     }
-    print_level(reading.level)
+    print_signed(reading.level)
 }
 
 // `R`, then station, water minute and level where there is a reading.

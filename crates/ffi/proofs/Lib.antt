@@ -2,3 +2,4 @@
 pub mod Showing
 pub mod Laying
 pub mod Telling
+pub mod Charging

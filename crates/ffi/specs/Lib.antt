@@ -1,4 +1,5 @@
 -- What the functions exported to C give, beside what `calls` and `snapshot` say.
+pub mod Charge
 pub mod Digits
 pub mod Durations
 pub mod Listen

@@ -25,6 +25,8 @@ pub enum Refusal {
     StoreFull,
     TooManyLengths,
     WildSample,
+    TooManyCalls,
+    CallTooLong,
 }
 
 impl Refusal {
@@ -47,6 +49,8 @@ impl Refusal {
             Refusal::StoreFull => 41,
             Refusal::TooManyLengths => 42,
             Refusal::WildSample => 43,
+            Refusal::TooManyCalls => 44,
+            Refusal::CallTooLong => 45,
         }
     }
 }

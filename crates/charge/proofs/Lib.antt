@@ -1,0 +1,2 @@
+-- What the program makes of all of its input.
+pub mod Input
