@@ -485,6 +485,21 @@ uint32_t morkhetta_month_charge(
     int64_t *charge, size_t charge_len
 );
 
+/* Three gauges, one level: the readings of three gauges of one basin, each a
+ * water minute and a level in centimetres; the level -32768 says that the
+ * reading is missing. Readings more than 5 minutes older than the newest are
+ * dropped. What is shown goes to the front of `pooled`, two numbers, if there is
+ * room for two: the oldest water minute of those kept, and of three kept the
+ * middle level, of two the lower, of one that one. Returns 0; or 46 where all
+ * three are missing, and then `pooled` is as it was.
+ */
+uint32_t morkhetta_pool(
+    uint32_t water1, int16_t level1,
+    uint32_t water2, int16_t level2,
+    uint32_t water3, int16_t level3,
+    int64_t *pooled, size_t pooled_len
+);
+
 #ifdef __cplusplus
 }
 #endif

@@ -12,6 +12,7 @@ use crate::clicks::Behind;
 use crate::difference::{of_heard, of_resampled, of_turned};
 use crate::frames::{frame_bytes, State};
 use crate::layout::*;
+use crate::pool;
 use crate::random::Random;
 use crate::scenes::KINDS;
 use crate::settings;
@@ -72,7 +73,7 @@ pub fn run(options: &Options) -> ExitCode {
         println!("    {reason}: {lines} lines");
     }
     let start = Instant::now();
-    let parts: [(&str, Part); 22] = [
+    let parts: [(&str, Part); 23] = [
         ("refused rates", refused_rates),
         ("refused boards", refused_boards),
         ("frames", frames),
@@ -95,6 +96,7 @@ pub fn run(options: &Options) -> ExitCode {
         ("durations", |o| durations::compare(o.seed, o.cases).map_err(plain)),
         ("settings", |o| settings::compare(o.seed, o.cases.div_ceil(26)).map_err(plain)),
         ("charges", |o| charges::compare(o.seed, o.cases).map_err(plain)),
+        ("pool", |o| pool::compare(o.seed, o.cases.saturating_mul(200)).map_err(plain)),
     ];
     for (name, part) in parts {
         if options.only.is_some() && name != "receiver" || !name.starts_with(&options.part) {

@@ -34,6 +34,7 @@ mod layout;
 mod lines;
 mod loudest;
 mod oracle;
+mod pool;
 mod port;
 mod random;
 mod refused;

@@ -12,24 +12,24 @@ use lib.Seq.{drop-cons, drop-length}
 use Rattle.console.specs.Words.{withDigit, decimalFrom}
 
 -- the rest from here on says what the whole says from the start on
-pub digit-on : (word : List ℕ) (i value : ℕ) {r : ℕ} → i < length word → r ≡ withDigit value (getD word i 0) → r ≤ 65535
-    → decimalFrom value (drop i word) ≡ decimalFrom r (drop (i + 1) word)
+pub digit-on : (most : ℕ) (word : List ℕ) (i value : ℕ) {r : ℕ} → i < length word → r ≡ withDigit most value (getD word i 0) → r ≤ most
+    → decimalFrom most value (drop i word) ≡ decimalFrom most r (drop (i + 1) word)
 unfolding decimalFrom
-digit-on word i value {r} h e l =
+digit-on most word i value {r} h e l =
     let d : drop i word ≡ getD word i 0 ∷ drop (i + 1) word = rw (add-one i) (drop-cons word i 0 h) in
-    let t : ltb 65535 r ≡ false = le-ltb 65535 r l in
+    let t : ltb most r ≡ false = le-ltb most r l in
     rw (d, ← e, t) refl
 
-pub digit-none : (word : List ℕ) (i value : ℕ) {r : ℕ} → i < length word → r ≡ withDigit value (getD word i 0) → 65535 < r
-    → decimalFrom value (drop i word) ≡ 0
+pub digit-none : (most : ℕ) (word : List ℕ) (i value : ℕ) {r : ℕ} → i < length word → r ≡ withDigit most value (getD word i 0) → most < r
+    → decimalFrom most value (drop i word) ≡ most + 1
 unfolding decimalFrom
-digit-none word i value {r} h e l =
+digit-none most word i value {r} h e l =
     let d : drop i word ≡ getD word i 0 ∷ drop (i + 1) word = rw (add-one i) (drop-cons word i 0 h) in
-    let t : ltb 65535 r ≡ true = lt-ltb 65535 r l in
+    let t : ltb most r ≡ true = lt-ltb most r l in
     rw (d, ← e, t) refl
 
-pub digits-end : (word : List ℕ) (i value : ℕ) → i ≤ length word → length word ≤ i → decimalFrom value (drop i word) ≡ value
+pub digits-end : (most : ℕ) (word : List ℕ) (i value : ℕ) → i ≤ length word → length word ≤ i → decimalFrom most value (drop i word) ≡ value
 unfolding decimalFrom
-digits-end word i value p q =
+digits-end most word i value p q =
     let e : i ≡ length word = omega arith in
     rw (e, drop-length word) refl

@@ -8,22 +8,26 @@ use Rattle.bell103.specs.declared.Role.the-variants.{Originate, Answer}
 use Rattle.console.specs.declared.words.Named.{Named}
 use Rattle.console.specs.declared.words.Named.the-variants as named
 
--- a number with one digit more; 65,536 where that is none, or more than 65,535
-unfoldable pub withDigit : ℕ → ℕ → ℕ
-withDigit value c =
-    if ltb c 48 then 65536
-    else if ltb 57 c then 65536
-    else if ltb (value * 10 + (c - 48)) 65536 then value * 10 + (c - 48)
-    else 65536
+-- a number with one digit more; one past `most` where that is none, or more than `most`
+unfoldable pub withDigit : ℕ → ℕ → ℕ → ℕ
+withDigit most value c =
+    if ltb c 48 then most + 1
+    else if ltb 57 c then most + 1
+    else if ltb most (value * 10 + (c - 48)) then most + 1
+    else value * 10 + (c - 48)
 
 -- with digits up to the end
-unfoldable pub decimalFrom : ℕ → List ℕ → ℕ
-decimalFrom value [] = value
-decimalFrom value (c ∷ cs) = if ltb 65535 (withDigit value c) then 0 else decimalFrom (withDigit value c) cs
+unfoldable pub decimalFrom : ℕ → ℕ → List ℕ → ℕ
+decimalFrom most value [] = value
+decimalFrom most value (c ∷ cs) = if ltb most (withDigit most value c) then most + 1 else decimalFrom most (withDigit most value c) cs
 
--- the number that a word says, decimal; 0 where it says none up to 65,535
+-- the number that a word says, decimal; one past `most` where it says none up to `most`
+unfoldable pub upToMost : ℕ → List ℕ → ℕ
+upToMost most word = decimalFrom most 0 word
+
+-- of a word of a command; 0 where it says none up to 65,535
 unfoldable pub decimalOf : List ℕ → ℕ
-decimalOf word = decimalFrom 0 word
+decimalOf word = if ltb 65535 (upToMost 65535 word) then 0 else upToMost 65535 word
 
 -- "originate"
 abbrev pub originate : List ℕ

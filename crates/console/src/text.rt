@@ -71,11 +71,8 @@ pub fn print_field(n: u64) -> bool {
     io::print_decimal(1, n)
 }
 
-// Station, water minute and level, each behind a space.
-fn print_fields(station: u16, reading: Reading) -> bool {
-    if !print_field(station as u64) {
-        return false;
-    }
+// Water minute and level, each behind a space.
+fn print_water(reading: Reading) -> bool {
     if !print_field(reading.water as u64) {
         return false;
     }
@@ -83,6 +80,25 @@ fn print_fields(station: u16, reading: Reading) -> bool {
         return false;
     }
     print_signed(reading.level)
+}
+
+// Station, water minute and level, each behind a space.
+fn print_fields(station: u16, reading: Reading) -> bool {
+    if !print_field(station as u64) {
+        return false;
+    }
+    print_water(reading)
+}
+
+// `P`, then water minute and level: what several gauges show together.
+pub fn print_pooled(reading: Reading) -> bool {
+    if !io::write_all(1, b"P") {
+        return false;
+    }
+    if !print_water(reading) {
+        return false;
+    }
+    io::write_all(1, b"\n")
 }
 
 // `R`, then station, water minute and level where there is a reading.

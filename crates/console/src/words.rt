@@ -2,7 +2,7 @@
 use bell103::Role;
 ghost use mathlib.Core.Path.{_≡_};
 ghost use Prim.Native.Nat.{_≤_};
-ghost use Rattle.console.specs.Words.{withDigit, decimalOf, Says};
+ghost use Rattle.console.specs.Words.{withDigit, upToMost, decimalOf, Says};
 
 // What a word for the role says.
 pub enum Named {
@@ -10,35 +10,48 @@ pub enum Named {
     Unknown,
 }
 
-// A number with one digit more; 65,536 where that is none, or more than 65,535.
-fn with_digit(value: u32, c: u8) -> u32
-    requires { ⌜ value ≤ 65535 ⌝ }
-    ensures { λ r. ⌜ r ≡ withDigit value c ⌝ }
+// A number with one digit more; one past the most where that is none, or more than the most.
+fn with_digit(most: u32, value: u64, c: u8) -> u64
+    requires { ⌜ value ≤ most ⌝ }
+    ensures { λ r. ⌜ r ≡ withDigit most value c ⌝ }
 {
+    let none = most as u64 + 1;
     if c < b'0' {
-        return 65536;
+        return none;
     }
     if b'9' < c {
-        return 65536;
+        return none;
     }
-    let next = value * 10 + (c - b'0') as u32;
-    if next < 65536 { next } else { 65536 }
+    let next = value * 10 + (c - b'0') as u64;
+    if (most as u64) < next { none } else { next }
 }
 
-// The number that a word says; 0 where it says none up to 65,535.
-fn decimal(word: &[u8]) -> u16
-    ensures { λ r. ⌜ r ≡ decimalOf (now (word .entry)) ⌝ }
+// The number that a word says; one past the most where it says none up to the most.
+pub fn decimal_up_to(most: u32, word: &[u8]) -> u64
+    ensures { λ r. ⌜ r ≡ upToMost most (now (word .entry)) ⌝ }
 {
+    let limit = most as u64;
     let mut value = 0;
     let mut i = 0;
     while i < word.len() {
-        value = with_digit(value, word[i]);
-        if 65535 < value {
-            return 0;
+        value = with_digit(most, value, word[i]);
+        if limit < value {
+            return limit + 1;
         }
         i += 1;
     }
-    value as u16
+    value
+}
+
+// The number that a word of a command says; 0 where it says none up to 65,535.
+fn decimal(word: &[u8]) -> u16
+    ensures { λ r. ⌜ r ≡ decimalOf (now (word .entry)) ⌝ }
+{
+    let n = decimal_up_to(65535, word);
+    if 65535 < n {
+        return 0;
+    }
+    n as u16
 }
 
 // What a word says of the role.

@@ -3,3 +3,4 @@ pub mod Showing
 pub mod Laying
 pub mod Telling
 pub mod Charging
+pub mod GaugeLaws

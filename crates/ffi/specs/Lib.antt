@@ -2,5 +2,6 @@
 pub mod Charge
 pub mod Digits
 pub mod Durations
+pub mod Gauges
 pub mod Listen
 pub mod Settings

@@ -4,6 +4,7 @@ pub mod charge;
 pub mod digits;
 pub mod durations;
 pub mod frames;
+pub mod gauges;
 pub mod listen;
 pub mod receive;
 pub mod resample;

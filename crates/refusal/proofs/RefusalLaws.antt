@@ -43,6 +43,7 @@ number-some refusal.TooManyLengths e = omega arith
 number-some refusal.WildSample e = omega arith
 number-some refusal.TooManyCalls e = omega arith
 number-some refusal.CallTooLong e = omega arith
+number-some refusal.NoReadings e = omega arith
 
 pub refused-by : (why : Refusal) (k : ℕ) → acceptanceOf (acceptance.Refused why) ≡ replyOf k → k ≡ numberOf why
 refused-by why zero e = let y : _≡_ {A = ℕ} 0 1 = cc in absurd (omega arith)

@@ -3,7 +3,7 @@ use Prim.Native.Nat.{ℕ, zero, suc}
 use mathlib.Core.Bool.{Bool, true, false, not, _&&_, _||_}
 use lib.Dec.{ltb, eqb}
 use Rattle.refusal.specs.declared.Refusal.{Refusal}
-use Rattle.refusal.specs.declared.Refusal.the-variants.{Rate, Station, TooManySamples, BadSample, OutputTooShort, Amplitude, TooManyBits, OutOfSamples, BytesWait, BitsWait, NoSettings, StoreFull, TooManyLengths, WildSample, TooManyCalls, CallTooLong}
+use Rattle.refusal.specs.declared.Refusal.the-variants.{Rate, Station, TooManySamples, BadSample, OutputTooShort, Amplitude, TooManyBits, OutOfSamples, BytesWait, BitsWait, NoSettings, StoreFull, TooManyLengths, WildSample, TooManyCalls, CallTooLong, NoReadings}
 use Rattle.refusal.specs.declared.Acceptance.{Acceptance}
 use Rattle.refusal.specs.declared.Acceptance.the-variants as acceptance
 use Rattle.refusal.specs.declared.Counted.{Counted}
@@ -37,6 +37,7 @@ numberOf TooManyLengths = 42
 numberOf WildSample = 43
 numberOf TooManyCalls = 44
 numberOf CallTooLong = 45
+numberOf NoReadings = 46
 
 -- what each case of an answer gives
 abbrev pub acceptanceOf : Acceptance → Reply Unit

@@ -27,6 +27,7 @@ pub enum Refusal {
     WildSample,
     TooManyCalls,
     CallTooLong,
+    NoReadings,
 }
 
 impl Refusal {
@@ -51,6 +52,7 @@ impl Refusal {
             Refusal::WildSample => 43,
             Refusal::TooManyCalls => 44,
             Refusal::CallTooLong => 45,
+            Refusal::NoReadings => 46,
         }
     }
 }

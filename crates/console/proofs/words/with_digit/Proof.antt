@@ -5,6 +5,9 @@ use borrow.Author.Needs.{needs}
 use Rattle.console.proofs.words.with_digit.Statement.{statement}
 use Rattle.console.proofs.words.with_digit.Tie as tie
 
+add-none : tie.Need-add-none
+add-none c = search needs
+
 returns : tie.Need-returns
 unfolding withDigit
 returns c = rw (lt-ltb _ _ (c .if1 .taken))
@@ -32,4 +35,4 @@ returns-4 c = rw (le-ltb _ _ (c .before .before .if1 .left), le-ltb _ _ (c .befo
 
 pub with-digit-spec : {M : Type 1} → statement M
 with-digit-spec =
-    tie.close (tie.spec returns returns-2 mul-next cast-next add-next returns-3 returns-4)
+    tie.close (tie.spec add-none returns returns-2 mul-next cast-next add-next returns-3 returns-4)

@@ -1,0 +1,3 @@
+-- The definitions that the contracts of `pool` cite.
+pub mod Fields
+pub mod Lines
