@@ -17,7 +17,7 @@ pub struct Numbers {
 }
 
 // Writes them at `at`.
-pub fn tell(answers: &mut [u64], at: usize, t: Numbers)
+pub(crate) fn tell(answers: &mut [u64], at: usize, t: Numbers)
     requires { ⌜ at + width ≤ length (now answers) ⌝ }
     ensures { λ _. ⌜ now (answers .exit) ≡ putAt at (t .number ∷ t .bytes ∷ t .lines ∷ t .last ∷ t .«bad_stops» ∷ []) (now (answers .entry)) ⌝ }
 {

@@ -69,7 +69,9 @@ fn yield_of(heard: Heard) -> Yielded
 // Writes the six numbers at `at`.
 fn tell_pushed(answers: &mut [u64], at: usize, y: Yielded, d: Deframer)
     requires { ⌜ at + 6 ≤ length (now answers) ⌝ }
-    ensures { λ _. ⌜ now (answers .exit) ≡ take at (now (answers .entry)) ++ ((y .kind ∷ y .byte ∷ deframerNumbers d) ++ drop (at + 6) (now (answers .entry))) ⌝ }
+    ensures { λ _. ⌜
+        now (answers .exit)
+        ≡ take at (now (answers .entry)) ++ ((y .kind ∷ y .byte ∷ deframerNumbers d) ++ drop (at + 6) (now (answers .entry))) ⌝ }
 {
     let in_frame = one_if(d.in_frame);
     answers[at] = y.kind as u64;

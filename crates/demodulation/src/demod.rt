@@ -121,8 +121,6 @@ pub struct Step {
     pub event: Event,
 }
 
-// Its parts are stored field by field: a part stored whole takes the gap behind its flag along, and the next sample's load of that gap would
-// wait for the store.
 // The deframer behind a step in which the detector goes from `was` to `up`: where it goes down, the half byte is dropped.
 fn dropped_at(was: bool, up: bool, d: Deframer) -> Deframer
     ensures { λ r. ⌜ r ≡ droppedAt was up d ⌝ }
@@ -151,6 +149,8 @@ fn kept_by(kind: Kind, was: bool, up: bool, d: Deframer) -> Deframer
     }
 }
 
+// Its parts are stored field by field: a part stored whole takes the gap behind its flag along, and the next sample's load of that gap would
+// wait for the store.
 impl Core {
     // Phases, ring place; dominance.
     fn feed(mut self, s: f64) -> Core

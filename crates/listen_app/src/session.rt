@@ -30,7 +30,8 @@ struct Session {
 // Acts on the reader's progress.
 fn act_on(host: Host, reader: BlockReader, block: &[f32]) -> Host
     requires { ⌜ BoardSound (host .board) ⌝ }
-    ensures { λ r. ⌜ BoardSound (r .board) × (view (gathered reader (now (block .entry))) (hostOf r) ≡ acted (hostOf host) (gathered reader (now (block .entry)))) ⌝ }
+    ensures { λ r. ⌜ BoardSound (r .board) ⌝ }
+    ensures { λ r. ⌜ view (gathered reader (now (block .entry))) (hostOf r) ≡ acted (hostOf host) (gathered reader (now (block .entry))) ⌝ }
 {
     let progress = reader.progress;
     match progress {

@@ -27,7 +27,7 @@ pub struct Resampled {
 }
 
 // The samples of a call, at 8,000 Hz, to the front of out.
-pub fn resample_into(r: Resampler, samples: &[f32], out: &mut [f64]) -> Resampled
+pub(crate) fn resample_into(r: Resampler, samples: &[f32], out: &mut [f64]) -> Resampled
     requires { ⌜ Sound r × (r .«dst_rate» ≡ 8000) × (length (now samples) ≤ 1024) × (length (now out) ≡ 1026) ⌝ }
     ensures { λ p. ⌜ Resamples r (now (samples .entry)) (p .state) (p .count) (now (out .exit)) ⌝ }
 {

@@ -68,7 +68,10 @@ fn no_codes() -> [u16; 2052]
 
 // At 8,000 Hz. The listener is changed where it stands, since a copy of it takes long.
 fn accept_equal(mut rx: Rx, samples: &[f32]) -> Written
-    requires { ⌜ RxSound rx × (refusedBy (now samples) (rx .listener .accepted) (rx .out .count) ≡ 0) × (equalRates (stateOf (rx .listener .resampler)) ≡ true) ⌝ }
+    requires { ⌜
+        RxSound rx
+        × (refusedBy (now samples) (rx .listener .accepted) (rx .out .count) ≡ 0)
+        × (equalRates (stateOf (rx .listener .resampler)) ≡ true) ⌝ }
     ensures { λ r. ⌜ (wrote (countOf (r .answer)) (receiverOf (r .state)) ≡ acceptedWrite (receiverOf rx) (now (samples .entry))) × RxSound (r .state) ⌝ }
 {
     let mut listener = rx.listener;

@@ -22,7 +22,7 @@ pub fn all_in_range(samples: &[f32]) -> bool
 }
 
 // The samples, each as an f64, to the front of out.
-pub fn widen_into(samples: &[f32], out: &mut [f64])
+pub(crate) fn widen_into(samples: &[f32], out: &mut [f64])
     requires { ⌜ length (now samples) ≤ length (now out) ⌝ }
     ensures { λ _. ⌜ Widened (now (samples .entry)) (now (out .entry)) (now (out .exit)) ⌝ }
 {

@@ -8,7 +8,7 @@ ghost use Rattle.refusal.specs.Refusals.{acceptanceOf, replyOf};
 ghost use Rattle.modem.specs.Write.{refusedBy};
 
 // The first check that a write does not pass.
-pub fn check(samples: &[f32], accepted: u64, waiting: usize) -> Acceptance
+pub(crate) fn check(samples: &[f32], accepted: u64, waiting: usize) -> Acceptance
     requires { ⌜ accepted ≤ 4294967296 ⌝ }
     ensures { λ r. ⌜ acceptanceOf r ≡ replyOf (refusedBy (now (samples .entry)) accepted waiting) ⌝ }
 {

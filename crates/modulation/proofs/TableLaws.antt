@@ -2,12 +2,15 @@
 use Prim.Native.Nat.{ℕ, zero, suc, _+_, _*_, _-_, _%_, _^_, _≤_, _<_}
 use mathlib.Core.Path.{_≡_, refl, sym, ap, ap₂, _∙_, subst}
 use mathlib.Core.Bool.{Bool, true, false, _&&_}
+use mathlib.Core.List.{List, [], _∷_}
 use native.Mathlib.Omega.{arith}
+use native.Mathlib.Nat.{not-suc-le-zero}
 use mir.Syntax.{w32}
 use mir.Val.{SFits, toZ, ofZ}
 use mir.ValLaws.{toZ-ofZ}
 use lib.Dec.{T, ltb, leb, eqb, leb→le, eqb→eq}
-use lib.ListN.{getD}
+use lib.ListN.{getD, drop}
+use lib.Seq.{getD-drop}
 use lib.IntN.{ℤ, pos, negsuc, negℤ, negℤ-negℤ}
 use lib.Signed.{mag}
 use lib.Ieee.{Float, le, lt, add, sub, mul, div, ofInt, ofBits}
@@ -43,30 +46,41 @@ nearest v e = same e (pos (roundUsize v)) && magnitude (v ⊖ whole (size e)) �
 abbrev circled : ℕ → Bool
 circled s = leb s (32767 * 32767 + 46342) && leb (32767 * 32767) (s + 46342)
 
--- of a place of the first quarter, of two places one after the other, and of a place of the first half
+-- two lists side by side, so that no place is looked up: at each of their first n places
+abbrev allPairs : ℕ → (ℤ → ℤ → Bool) → List ℤ → List ℤ → Bool
+allPairs zero f xs ys = true
+allPairs (suc n) f [] ys = false
+allPairs (suc n) f (x ∷ xs) [] = false
+allPairs (suc n) f (x ∷ xs) (y ∷ ys) = f x y && allPairs n f xs ys
+
+at-pair : (n : ℕ) (f : ℤ → ℤ → Bool) (xs ys : List ℤ) → T (allPairs n f xs ys) → (k : ℕ) → k < n → T (f (getD xs k (pos 0)) (getD ys k (pos 0)))
+at-pair zero f xs ys t k h = absurd (not-suc-le-zero h)
+at-pair (suc n) f [] ys t k h = absurd t
+at-pair (suc n) f (x ∷ xs) [] t k h = absurd t
+at-pair (suc n) f (x ∷ xs) (y ∷ ys) t zero h = both-left (f x y) (allPairs n f xs ys) t
+at-pair (suc n) f (x ∷ xs) (y ∷ ys) t (suc k) h = at-pair n f xs ys (both-right (f x y) (allPairs n f xs ys) t) k (omega arith)
+
+-- of a place of the first quarter; of an entry and the one a quarter further on; of an entry and the one half a turn further on
 abbrev quarter : ℕ → Bool
-quarter k = nearest (levelOf k) (at k) && (same (at (800 - k)) (at k) && (circled (squares (at k) (at (k + 400))) && leb (size (at k)) 32767))
+quarter k = nearest (levelOf k) (at k) && same (at (800 - k)) (at k)
 
-abbrev rising : ℕ → Bool
-rising k = atMost (at k) (at (k + 1))
+abbrev sized : ℤ → ℤ → Bool
+sized a b = circled (squares a b) && leb (size a) 32767
 
-abbrev opposed : ℕ → Bool
-opposed k = same (at (k + 800)) (negℤ (at k))
+abbrev opposed : ℤ → ℤ → Bool
+opposed a b = same b (negℤ a)
+
+abbrev moving : Bool
+moving = allPairs 400 atMost table (drop 1 table) && allPairs 800 opposed table (drop 800 table)
 
 abbrev others : Bool
-others = allBelow 400 rising && allBelow 800 opposed
+others = allPairs 401 sized table (drop 400 table) && moving
 
 passed : T (allBelow 401 quarter && others)
 unfolding table levelOf sineOf reduced folded horner series halfTurn magnitude roundUsize le lt add sub mul div ofInt ofBits
 passed = tt
 
 -- ---- what it says of each place
-abbrev half : ℕ → Bool
-half k = same (at (800 - k)) (at k) && (circled (squares (at k) (at (k + 400))) && leb (size (at k)) 32767)
-
-abbrev sized : ℕ → Bool
-sized k = circled (squares (at k) (at (k + 400))) && leb (size (at k)) 32767
-
 abbrev margined : ℕ → Bool
 margined k = magnitude (levelOf k ⊖ whole (size (at k))) ≤ᶠ margin
 
@@ -75,7 +89,7 @@ module _ (k : ℕ) (h : k ≤ 400) where
   passes = at-number 401 quarter (both-left (allBelow 401 quarter) others passed) k (omega arith)
 
   near : T (nearest (levelOf k) (at k))
-  near = both-left (nearest (levelOf k) (at k)) (half k) passes
+  near = both-left (nearest (levelOf k) (at k)) (same (at (800 - k)) (at k)) passes
 
   height : at k ≡ pos (heightOf k)
   unfolding heightOf
@@ -85,17 +99,28 @@ module _ (k : ℕ) (h : k ≤ 400) where
   tie-free = both-right (same (at k) (pos (roundUsize (levelOf k)))) (margined k) near
 
   mirrored : at (800 - k) ≡ at k
-  mirrored = same-is (at (800 - k)) (at k) (both-left (same (at (800 - k)) (at k)) (sized k) (both-right (nearest (levelOf k) (at k)) (half k) passes))
+  mirrored = same-is (at (800 - k)) (at k) (both-right (nearest (levelOf k) (at k)) (same (at (800 - k)) (at k)) passes)
 
-  sizes : T (sized k)
-  sizes = both-right (same (at (800 - k)) (at k)) (sized k) (both-right (nearest (levelOf k) (at k)) (half k) passes)
+-- a test of each of the first n entries and the one j places further on
+ahead : (j k : ℕ) → getD (drop j table) k (pos 0) ≡ at (k + j)
+ahead j k = let e : j + k ≡ k + j = omega arith in getD-drop j table k (pos 0) ∙ ap at e
 
-rise : (k : ℕ) → k < 400 → T (rising k)
-rise k h = at-number 400 rising (both-left (allBelow 400 rising) (allBelow 800 opposed) (both-right (allBelow 401 quarter) others passed)) k h
+both-at : (f : ℤ → ℤ → Bool) (n j : ℕ) → T (allPairs n f table (drop j table)) → (k : ℕ) → k < n → T (f (at k) (at (k + j)))
+both-at f n j t k h = subst (λ (z : ℤ). T (f (at k) z)) (ahead j k) (at-pair n f table (drop j table) t k h)
+
+sizes : (k : ℕ) → k ≤ 400 → T (sized (at k) (at (k + 400)))
+sizes k h = both-at sized 401 400 (both-left (allPairs 401 sized table (drop 400 table)) moving (both-right (allBelow 401 quarter) others passed)) k (omega arith)
+
+moves : T moving
+moves = both-right (allPairs 401 sized table (drop 400 table)) moving (both-right (allBelow 401 quarter) others passed)
+
+rise : (k : ℕ) → k < 400 → T (atMost (at k) (at (k + 1)))
+rise k h = both-at atMost 400 1 (both-left (allPairs 400 atMost table (drop 1 table)) (allPairs 800 opposed table (drop 800 table)) moves) k h
 
 negated : (k : ℕ) → k < 800 → at (k + 800) ≡ negℤ (at k)
 negated k h =
-    same-is (at (k + 800)) (negℤ (at k)) (at-number 800 opposed (both-right (allBelow 400 rising) (allBelow 800 opposed) (both-right (allBelow 401 quarter) others passed)) k h)
+    same-is (at (k + 800)) (negℤ (at k))
+    (both-at opposed 800 800 (both-right (allPairs 400 atMost table (drop 1 table)) (allPairs 800 opposed table (drop 800 table)) moves) k h)
 
 -- ---- the code's table is the definition's, quarter by quarter
 second : (k : ℕ) → 400 ≤ k → k ≤ 800 → at k ≡ pos (heightOf (800 - k))

@@ -306,7 +306,9 @@ fn pass_in(
     rest: &mut [f32],
 ) -> Passed
     requires { ⌜ WaveHeld (now bits) w × Rising (s .rate) r × (length (now rest) ≤ 1024) × (length (now pending) ≡ 64) ⌝ }
-    requires { ⌜ (length (now scratch) ≡ need (length (now rest)) (s .rate)) × (length (now out) ≡ maxOutputLen dspRate (s .rate) (need (length (now rest)) (s .rate))) ⌝ }
+    requires { ⌜
+        (length (now scratch) ≡ need (length (now rest)) (s .rate))
+        × (length (now out) ≡ maxOutputLen dspRate (s .rate) (need (length (now rest)) (s .rate))) ⌝ }
     ensures { λ p. ⌜ PassesOver (now (bits .entry)) s w r (length (now (rest .entry))) (now (rest .exit)) (now (pending .exit)) p ⌝ }
 {
     let t = s.tones;

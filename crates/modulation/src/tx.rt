@@ -79,7 +79,9 @@ fn fill_places(
     out: &mut [f32],
 ) -> Filled
     requires { ⌜ BitsHeld (now bits) (w .head) (w .waiting) × PendingHeld (now pending) from upto × (length (now out) ≤ 1024) ⌝ }
-    ensures { λ r. ⌜ FillsBy (now (bits .entry)) tones w a (now (pending .entry)) from upto (length (now (out .entry))) (now (out .exit)) (now (pending .exit)) r ⌝ }
+    ensures { λ r. ⌜
+        FillsBy (now (bits .entry)) tones w a (now (pending .entry)) from upto
+        (length (now (out .entry))) (now (out .exit)) (now (pending .exit)) r ⌝ }
 {
     let n = out.len();
     let written = hand_over(&pending[from..upto], out);

@@ -8,6 +8,7 @@ use lib.Ieee.{Float, nan}
 use Rattle.numeric.specs.If.{if_then_else_}
 use Rattle.resampling.specs.Design.{mostTaps}
 use Rattle.resampling.specs.Filter.{Window, filtered, newest, filteredAll, historyAfter}
+use Rattle.resampling.specs.declared.filter.Two.{Two}
 
 -- the place before idx in a ring of n, and the one after pos
 unfoldable pub ringBack : ℕ → ℕ → ℕ
@@ -46,3 +47,8 @@ pub record AllFiltered (n pos pos′ : ℕ) (taps xs ring ring′ ys : List Floa
   pub history : historyOf n pos′ ring′ ≡ historyAfter (historyOf n pos ring) xs
   pub values : ys ≡ filteredAll (take n taps) (historyOf n pos ring) xs
   pub placed : Placed n pos′ taps ring′
+
+-- x and then `later` went into the ring from pos on and through the filter, which gave the two of y
+abbrev pub TwoFiltered : ℕ → ℕ → List Float → Float → Float → List Float → List Float → Two → Type 0
+TwoFiltered n pos taps x later ring ring′ y =
+    AllFiltered n pos (ringNext n (ringNext n pos)) taps (x ∷ later ∷ []) ring ring′ (y .first ∷ y .second ∷ [])

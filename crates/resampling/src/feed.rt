@@ -10,12 +10,11 @@ use crate::sample::slide;
 use numeric::ends::smaller;
 ghost use mathlib.Core.Path.{_≡_};
 ghost use mathlib.Core.Bool.{true, false};
-ghost use mathlib.Core.List.{List, [], _∷_};
-ghost use Prim.Native.Nat.{ℕ, _≤_};
-ghost use lib.ListN.{length, take};
-ghost use lib.Ieee.{Float};
-ghost use Rattle.resampling.specs.FilterRep.{historyOf, Placed};
-ghost use Rattle.resampling.specs.FlowRep.{flowOf, filterIn, run, drainedInto, fedInto, throughFilter, Copied};
+ghost use mathlib.Core.List.{[], _∷_};
+ghost use Prim.Native.Nat.{_≤_};
+ghost use lib.ListN.{length};
+ghost use Rattle.resampling.specs.FilterRep.{Placed};
+ghost use Rattle.resampling.specs.FlowRep.{AllDrained, AllFed, AllInterpolated, Copied};
 
 // How much of the output is written, and what moved.
 pub struct Drained {
@@ -25,7 +24,7 @@ pub struct Drained {
 
 // Every output sample that the window covers, as far as the output has room. Where the rate goes up, they pass the filter later.
 fn drain(step: f64, m: Moving, output: &mut [f64], from: usize) -> Drained
-    ensures { λ r. ⌜ ((n : ℕ) → (taps ring : List Float) → run (flowOf n ring (r .moving)) (now (output .exit)) (r .at) ≡ drainedInto (filterIn n taps true step) (run (flowOf n ring m) (now (output .entry)) from)) ⌝ }
+    ensures { λ r. ⌜ AllDrained step m (now (output .entry)) from r (now (output .exit)) ⌝ }
     ensures { λ r. ⌜ r .moving .«fir_pos» ≡ m .«fir_pos» ⌝ }
 {
     let mut moving = m;
@@ -56,7 +55,9 @@ fn feed_one(
     from: usize,
 ) -> Drained
     requires { ⌜ Placed n (m .«fir_pos») (now taps) (now hist) ⌝ }
-    ensures { λ r. ⌜ run (flowOf n (now (hist .exit)) (r .moving)) (now (output .exit)) (r .at) ≡ fedInto (filterIn n (now (taps .entry)) true step) (x ∷ []) (run (flowOf n (now (hist .entry)) m) (now (output .entry)) from) ⌝ }
+    ensures { λ r. ⌜
+        AllFed n (now (taps .entry)) true step (x ∷ [])
+        m (now (hist .entry)) (now (output .entry)) from r (now (hist .exit)) (now (output .exit)) ⌝ }
     ensures { λ r. ⌜ Placed n (r .moving .«fir_pos») (now (taps .entry)) (now (hist .exit)) ⌝ }
 {
     let p = push_one(taps, hist, n, m, x);
@@ -76,7 +77,9 @@ fn feed_two(
     from: usize,
 ) -> Drained
     requires { ⌜ Placed n (m .«fir_pos») (now taps) (now hist) ⌝ }
-    ensures { λ r. ⌜ run (flowOf n (now (hist .exit)) (r .moving)) (now (output .exit)) (r .at) ≡ fedInto (filterIn n (now (taps .entry)) true step) (x ∷ later ∷ []) (run (flowOf n (now (hist .entry)) m) (now (output .entry)) from) ⌝ }
+    ensures { λ r. ⌜
+        AllFed n (now (taps .entry)) true step (x ∷ later ∷ [])
+        m (now (hist .entry)) (now (output .entry)) from r (now (hist .exit)) (now (output .exit)) ⌝ }
     ensures { λ r. ⌜ Placed n (r .moving .«fir_pos») (now (taps .entry)) (now (hist .exit)) ⌝ }
 {
     let p = push_ahead(taps, hist, n, m, x, later);
@@ -100,7 +103,9 @@ fn feed_pairs(
     output: &mut [f64],
 ) -> Drained
     requires { ⌜ Placed n (m .«fir_pos») (now taps) (now hist) ⌝ }
-    ensures { λ r. ⌜ run (flowOf n (now (hist .exit)) (r .moving)) (now (output .exit)) (r .at) ≡ fedInto (filterIn n (now (taps .entry)) true step) (now (input .entry)) (run (flowOf n (now (hist .entry)) m) (now (output .entry)) 0) ⌝ }
+    ensures { λ r. ⌜
+        AllFed n (now (taps .entry)) true step (now (input .entry))
+        m (now (hist .entry)) (now (output .entry)) 0 r (now (hist .exit)) (now (output .exit)) ⌝ }
     ensures { λ r. ⌜ Placed n (r .moving .«fir_pos») (now (taps .entry)) (now (hist .exit)) ⌝ }
 {
     let mut moving = m;
@@ -135,7 +140,7 @@ fn feed_pairs(
 
 // The whole input's output samples before the filter, as far as there is room for them.
 fn interpolate_all(step: f64, m: Moving, input: &[f64], output: &mut [f64]) -> Drained
-    ensures { λ r. ⌜ ((n : ℕ) → (taps ring : List Float) → throughFilter (take n taps) (historyOf n (m .«fir_pos») ring) (run (flowOf n ring (r .moving)) (now (output .exit)) (r .at)) ≡ fedInto (filterIn n taps false step) (now (input .entry)) (run (flowOf n ring m) (now (output .entry)) 0)) ⌝ }
+    ensures { λ r. ⌜ AllInterpolated step (now (input .entry)) m (now (output .entry)) r (now (output .exit)) ⌝ }
     ensures { λ r. ⌜ r .at ≤ length (now (output .exit)) ⌝ }
 {
     let mut moving = m;
@@ -165,7 +170,9 @@ fn feed_rising(
     output: &mut [f64],
 ) -> Drained
     requires { ⌜ Placed n (m .«fir_pos») (now taps) (now hist) ⌝ }
-    ensures { λ r. ⌜ run (flowOf n (now (hist .exit)) (r .moving)) (now (output .exit)) (r .at) ≡ fedInto (filterIn n (now (taps .entry)) false step) (now (input .entry)) (run (flowOf n (now (hist .entry)) m) (now (output .entry)) 0) ⌝ }
+    ensures { λ r. ⌜
+        AllFed n (now (taps .entry)) false step (now (input .entry))
+        m (now (hist .entry)) (now (output .entry)) 0 r (now (hist .exit)) (now (output .exit)) ⌝ }
     ensures { λ r. ⌜ Placed n (r .moving .«fir_pos») (now (taps .entry)) (now (hist .exit)) ⌝ }
 {
     let d = interpolate_all(step, m, input, output);
@@ -191,7 +198,9 @@ pub fn feed(
     output: &mut [f64],
 ) -> Drained
     requires { ⌜ Placed n (m .«fir_pos») (now taps) (now hist) ⌝ }
-    ensures { λ r. ⌜ run (flowOf n (now (hist .exit)) (r .moving)) (now (output .exit)) (r .at) ≡ fedInto (filterIn n (now (taps .entry)) decimating step) (now (input .entry)) (run (flowOf n (now (hist .entry)) m) (now (output .entry)) 0) ⌝ }
+    ensures { λ r. ⌜
+        AllFed n (now (taps .entry)) decimating step (now (input .entry))
+        m (now (hist .entry)) (now (output .entry)) 0 r (now (hist .exit)) (now (output .exit)) ⌝ }
     ensures { λ r. ⌜ Placed n (r .moving .«fir_pos») (now (taps .entry)) (now (hist .exit)) ⌝ }
 {
     if decimating {

@@ -1,11 +1,10 @@
 // The filter: sums over a ring of the newest samples.
 use crate::design::MAX_TAPS;
 ghost use mathlib.Core.Path.{_≡_};
-ghost use mathlib.Core.List.{[], _∷_};
 ghost use Prim.Native.Nat.{_<_};
 ghost use lib.ListN.{take};
 ghost use Rattle.resampling.specs.Filter.{filtered, newest};
-ghost use Rattle.resampling.specs.FilterRep.{ringBack, ringNext, walk, Placed, Filtered, AllFiltered};
+ghost use Rattle.resampling.specs.FilterRep.{ringBack, ringNext, walk, Placed, Filtered, AllFiltered, TwoFiltered};
 
 pub fn ring_back(n: usize, idx: usize) -> usize
     requires { ⌜ idx < n ⌝ }
@@ -97,7 +96,7 @@ fn fir_push_two(
     later: f64,
 ) -> Two
     requires { ⌜ Placed n pos (now taps) (now hist) ⌝ }
-    ensures { λ r. ⌜ AllFiltered n pos (ringNext n (ringNext n pos)) (now (taps .entry)) (x ∷ later ∷ []) (now (hist .entry)) (now (hist .exit)) (r .first ∷ r .second ∷ []) ⌝ }
+    ensures { λ r. ⌜ TwoFiltered n pos (now (taps .entry)) x later (now (hist .entry)) (now (hist .exit)) r ⌝ }
 {
     hist[pos] = x;
     let y = fir_sums(taps, hist, n, pos, later);

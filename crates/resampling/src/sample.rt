@@ -5,7 +5,6 @@ use crate::filter::fir_sums;
 use crate::filter::ring_next;
 use crate::hermite::hermite;
 ghost use mathlib.Core.Path.{_≡_};
-ghost use mathlib.Core.Bool.{true};
 ghost use mathlib.Core.List.{List};
 ghost use Prim.Native.Nat.{ℕ, _≤_, _<_};
 ghost use lib.ListN.{length, take};
@@ -13,8 +12,8 @@ ghost use lib.Ieee.{Float};
 ghost use Rattle.resampling.specs.Design.{mostTaps};
 ghost use Rattle.resampling.specs.Filter.{filtered, newest};
 ghost use Rattle.resampling.specs.FilterRep.{historyOf, Placed};
-ghost use Rattle.resampling.specs.Flow.{windowed, pushed, outWith, emitted};
-ghost use Rattle.resampling.specs.FlowRep.{flowOf, filterIn};
+ghost use Rattle.resampling.specs.Flow.{windowed};
+ghost use Rattle.resampling.specs.FlowRep.{flowOf, OnePushed, OneEmitted};
 
 // What a resampler changes from sample to sample, but for the filter's history.
 pub struct Moving {
@@ -48,7 +47,7 @@ pub fn push_one(
     x: f64,
 ) -> Moving
     requires { ⌜ Placed n (m .«fir_pos») (now taps) (now hist) ⌝ }
-    ensures { λ r. ⌜ ((step : Float) → flowOf n (now (hist .exit)) r ≡ pushed (filterIn n (now (taps .entry)) true step) x (flowOf n (now (hist .entry)) m)) ⌝ }
+    ensures { λ r. ⌜ OnePushed n (now (taps .entry)) x m (now (hist .entry)) r (now (hist .exit)) ⌝ }
     ensures { λ r. ⌜ Placed n (r .«fir_pos») (now (taps .entry)) (now (hist .exit)) ⌝ }
 {
     let pos = m.fir_pos;
@@ -73,7 +72,7 @@ pub fn push_ahead(
     later: f64,
 ) -> Pushed
     requires { ⌜ Placed n (m .«fir_pos») (now taps) (now hist) ⌝ }
-    ensures { λ r. ⌜ ((step : Float) → flowOf n (now (hist .exit)) (r .moving) ≡ pushed (filterIn n (now (taps .entry)) true step) x (flowOf n (now (hist .entry)) m)) ⌝ }
+    ensures { λ r. ⌜ OnePushed n (now (taps .entry)) x m (now (hist .entry)) (r .moving) (now (hist .exit)) ⌝ }
     ensures { λ r. ⌜ Placed n (r .moving .«fir_pos») (now (taps .entry)) (now (hist .exit)) ⌝ }
     ensures { λ r. ⌜ r .ahead ≡ filtered (take n (now (taps .entry))) (newest later (historyOf n (r .moving .«fir_pos») (now (hist .exit)))) ⌝ }
 {
@@ -108,7 +107,7 @@ pub struct Emitted {
 
 // One output sample: between the window's middle samples. Where the rate goes up, it passes the filter later.
 pub fn emit(step: f64, m: Moving) -> Emitted
-    ensures { λ r. ⌜ ((n : ℕ) → (taps ring : List Float) → outWith (r .y) (flowOf n ring (r .moving)) ≡ emitted (filterIn n taps true step) (flowOf n ring m)) ⌝ }
+    ensures { λ r. ⌜ OneEmitted step m r ⌝ }
     ensures { λ r. ⌜ r .moving .«fir_pos» ≡ m .«fir_pos» ⌝ }
 {
     let w = m.herm_hist;

@@ -81,7 +81,8 @@ pub fn offset(kind: Kind, i: usize) -> usize
 // The bytes of a block's samples, at the front.
 pub fn pack(kind: Kind, samples: &[f32], bytes: &mut [u8; 4096])
     requires { ⌜ (length (now samples) ≤ 1024) × (length (now bytes) ≡ 4096) ⌝ }
-    ensures { λ _. ⌜ (take (widthOf kind * length (now (samples .entry))) (now (bytes .exit)) ≡ blockBytes kind (now (samples .entry))) × (length (now (bytes .exit)) ≡ 4096) ⌝ }
+    ensures { λ _. ⌜ take (widthOf kind * length (now (samples .entry))) (now (bytes .exit)) ≡ blockBytes kind (now (samples .entry)) ⌝ }
+    ensures { λ _. ⌜ length (now (bytes .exit)) ≡ 4096 ⌝ }
 {
     let mut i = 0;
     while i < samples.len() {

@@ -93,6 +93,10 @@ receiverAfter zero r xs script = r
 receiverAfter (suc k) r xs script =
     receiverAfter k (called r (take (toWrite script) xs) (min (toRead script) mostBytes) (min (toTake script) mostEvents) .state) (drop (toWrite script) xs) (drop 3 script)
 
+-- the receiver after all calls of a script
+abbrev pub scriptedReceiver : Receiver → List Float → List ℕ → Receiver
+scriptedReceiver r xs script = receiverAfter (callsIn script) r xs script
+
 -- what the function leaves: its number, and the lent list
 pub record Shown : Type 0 where
   pub number : ℕ
@@ -101,9 +105,13 @@ pub record Shown : Type 0 where
 abbrev pub shown : ℕ → List Float → Shown
 shown n l = record { number = n; state = l }
 
--- 1 and the state behind all calls of the script, at the front of the list; 0 and the list as it was where it is too short or the rate is refused
+-- from a receiver on: 1 and the state behind all calls of the script, at the front of the list
+abbrev pub stateRunFrom : Receiver → List Float → List ℕ → List Float → Shown
+stateRunFrom r xs script l = shown 1 (stateNumbers (scriptedReceiver r xs script) ++ drop stateLength l)
+
+-- the same from a fresh receiver on; 0 and the list as it was where it is too short or the rate is refused
 unfoldable pub stateRun : ℕ → ℕ → List Float → List ℕ → List Float → Shown
 stateRun rate role xs script l =
     if ltb (length l) stateLength then shown 0 l
     else if rateRefused rate then shown 0 l
-    else shown 1 (stateNumbers (receiverAfter (callsIn script) (freshReceiver rate (roleOf role)) xs script) ++ drop stateLength l)
+    else stateRunFrom (freshReceiver rate (roleOf role)) xs script l

@@ -16,8 +16,7 @@ ghost use lib.ListN.{length, drop, replicate};
 ghost use Rattle.resampling.specs.ResampleRep.{stateOf, Sound};
 ghost use Rattle.demodulation.specs.DemodRep.{demodulatorOf, DemodSound};
 ghost use Rattle.modem.specs.RxRep.{receiverOf, RxSound};
-ghost use Rattle.calls.specs.Receive.{callsIn};
-ghost use Rattle.snapshot.specs.ReceiverState.{truth, placeNumbers, toneNumbers, markNumbers, ownNumbers, blockNumber, lastNumbers, resamplerNumbers, resamplerLength, ringNumbers, stateNumbers, stateLength, receiverAfter, shown, stateRun};
+ghost use Rattle.snapshot.specs.ReceiverState.{truth, placeNumbers, toneNumbers, markNumbers, ownNumbers, blockNumber, lastNumbers, resamplerNumbers, resamplerLength, ringNumbers, stateNumbers, stateLength, scriptedReceiver, shown, stateRunFrom, stateRun};
 ghost use Rattle.snapshot.specs.StateSteps.{Put, PutMany, Standing, Moves};
 
 // ---- the script
@@ -75,7 +74,7 @@ fn calls_of(numbers: usize) -> usize
 // Each call of the script.
 fn all_steps(state: Rx, samples: &[f32], script: &[u32]) -> Rx
     requires { ⌜ RxSound state ⌝ }
-    ensures { λ r. ⌜ (receiverOf r ≡ receiverAfter (callsIn (now (script .entry))) (receiverOf state) (now (samples .entry)) (now (script .entry))) × RxSound r ⌝ }
+    ensures { λ r. ⌜ (receiverOf r ≡ scriptedReceiver (receiverOf state) (now (samples .entry)) (now (script .entry))) × RxSound r ⌝ }
 {
     let calls = calls_of(script.len());
     let mut spot = Spot { state, read: 0 };
@@ -296,7 +295,7 @@ fn put_state(rx: Rx, out: &mut [f64])
 // The state behind a script; answers 1.
 fn show(fresh: Rx, samples: &[f32], script: &[u32], state: &mut [f64]) -> u32
     requires { ⌜ RxSound fresh × (stateLength ≤ length (now state)) ⌝ }
-    ensures { λ r. ⌜ shown r (now (state .exit)) ≡ shown 1 (stateNumbers (receiverAfter (callsIn (now (script .entry))) (receiverOf fresh) (now (samples .entry)) (now (script .entry))) ++ drop stateLength (now (state .entry))) ⌝ }
+    ensures { λ r. ⌜ shown r (now (state .exit)) ≡ stateRunFrom (receiverOf fresh) (now (samples .entry)) (now (script .entry)) (now (state .entry)) ⌝ }
 {
     let rx = all_steps(fresh, samples, script);
     put_state(rx, state);

@@ -6,27 +6,27 @@ ghost use Prim.Native.Nat.{_<_};
 ghost use Rattle.hexadecimal.specs.Hex.{allHex, unhex};
 ghost use Rattle.tide.specs.Frame.{stationOf, stampOf, ageOf, levelOf, signed};
 
-pub fn station_of(s: &[u8]) -> u32
+pub(crate) fn station_of(s: &[u8]) -> u32
     ensures { λ r. ⌜ r ≡ stationOf (unhex (now (s .entry))) ⌝ }
 {
     256 * byte(s, 3) + byte(s, 4)
 }
 
-pub fn stamp_of(s: &[u8]) -> u32
+pub(crate) fn stamp_of(s: &[u8]) -> u32
     requires { ⌜ allHex (now s) ≡ true ⌝ }
     ensures { λ r. ⌜ r ≡ stampOf (unhex (now (s .entry))) ⌝ }
 {
     16777216 * byte(s, 5) + 65536 * byte(s, 6) + 256 * byte(s, 7) + byte(s, 8)
 }
 
-pub fn age_of(s: &[u8]) -> u32
+pub(crate) fn age_of(s: &[u8]) -> u32
     ensures { λ r. ⌜ r ≡ ageOf (unhex (now (s .entry))) ⌝ }
 {
     byte(s, 9)
 }
 
 // The level's sixteen bits.
-pub fn level_bits(s: &[u8]) -> u32
+pub(crate) fn level_bits(s: &[u8]) -> u32
     requires { ⌜ allHex (now s) ≡ true ⌝ }
     ensures { λ r. ⌜ (r ≡ levelOf (unhex (now (s .entry)))) × (r < 65536) ⌝ }
 {
@@ -34,7 +34,7 @@ pub fn level_bits(s: &[u8]) -> u32
 }
 
 // The number that sixteen bits say, with a sign.
-pub fn level_of(v: u32) -> i16
+pub(crate) fn level_of(v: u32) -> i16
     requires { ⌜ v < 65536 ⌝ }
     ensures { λ r. ⌜ r ≡ signed v ⌝ }
 {

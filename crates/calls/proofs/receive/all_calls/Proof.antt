@@ -80,16 +80,16 @@ loop-again c =
     let t = c .before .before .before .before .before .before .before .before .before .before .before .before .before .loop-test .taken in
     let n = c .before .before .before .before .before .before .before .before .before .before .before .before .before .before .before .smaller .ensures in
     let o = c .before .before .before .before .before .before .one-call in
-    (omega (arith, t), search needs, search needs, search needs, o .ensures .1, receive-step _ _ _ _ (omega (arith, t, n .2, l .inv .3)) _ _ _ _ _ _ _ (l .inv .4) (o .ensures .0) _ _ (omega (arith, t)) ∙ l .inv .5)
+    (omega (arith, t), o .kept .1 .1 .1 .0 ∙ l .inv .1, o .kept .1 .1 .1 .1 .0 ∙ l .inv .2, o .kept .1 .1 .1 .1 .1 .0 ∙ l .inv .3, o .ensures .1, receive-step _ _ _ _ (omega (arith, t, n .2, l .inv .3)) _ _ _ _ _ _ _ (l .inv .4) (o .ensures .0) _ _ (omega (arith, t)) ∙ l .inv .5)
 
 same-length : tie.Need-same-length Inv-loop μ-loop
-same-length c = search needs
+same-length c = c .before .loop .inv .1
 
 same-length-2 : tie.Need-same-length-2 Inv-loop μ-loop
-same-length-2 c = search needs
+same-length-2 c = c .before .loop .inv .2
 
 same-length-3 : tie.Need-same-length-3 Inv-loop μ-loop
-same-length-3 c = search needs
+same-length-3 c = c .before .loop .inv .3
 
 returns : tie.Need-returns Inv-loop μ-loop
 returns c =

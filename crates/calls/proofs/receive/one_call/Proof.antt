@@ -71,13 +71,13 @@ add-t20 c =
     omega (arith, events-fit (s .args .p) (s .args .k) _ (s .args .bytes .now) (s .args .events .now) (s .pre .0) _ _ _ (pe .ensures .0) (pe .ensures .2 (s .pre .0 .read)) (pf .ensures .0) (pg .ensures .0) (m .result .answer) _ _ _ (m .ensures), g .1, s .good)
 
 same-length : tie.Need-same-length
-same-length c = search needs
+same-length c = c .before .before .before .before .before .before .before .before .before .before .before .bytes .given .1
 
 same-length-2 : tie.Need-same-length-2
-same-length-2 c = search needs
+same-length-2 c = c .before .before .before .before .before .before .before .before .before .events .given .1
 
 same-length-3 : tie.Need-same-length-3
-same-length-3 c = search needs
+same-length-3 c = c .before .before .before .before .before .tell-heard .kept .0
 
 returns : tie.Need-returns
 returns c =

@@ -52,13 +52,13 @@ loop-again c =
     let s = c .before .before .before .before .one-call in
     let t = c .before .before .before .before .before .before .before .before .loop-test .taken in
     let n = c .before .before .before .before .before .before .before .before .before .before .smaller .ensures in
-    (omega (arith, t), search needs, search needs, s .ensures .1, processed-step _ _ _ _ (omega (arith, t, n .1)) (omega (arith, t, n .2, l .inv .2)) _ _ _ _ _ (l .inv .3 .written) (s .ensures .0) ∙ l .inv .4)
+    (omega (arith, t), s .kept .1 .1 .1 .1 .0 ∙ l .inv .1, s .kept .1 .1 .1 .1 .1 .0 ∙ l .inv .2, s .ensures .1, processed-step _ _ _ _ (omega (arith, t, n .1)) (omega (arith, t, n .2, l .inv .2)) _ _ _ _ _ (l .inv .3 .written) (s .ensures .0) ∙ l .inv .4)
 
 same-length : tie.Need-same-length Inv-loop μ-loop
-same-length c = search needs
+same-length c = c .before .loop .inv .1
 
 same-length-2 : tie.Need-same-length-2 Inv-loop μ-loop
-same-length-2 c = search needs
+same-length-2 c = c .before .loop .inv .2
 
 returns : tie.Need-returns Inv-loop μ-loop
 returns c =

@@ -50,7 +50,7 @@ loop-again c =
     (search needs, search needs, lengths-step _ _ _ _ (search needs) (search needs) _ (c .before .before .one-length .ensures) ∙ l .inv .2)
 
 same-length : tie.Need-same-length Inv-loop μ-loop
-same-length c = search needs
+same-length c = c .before .loop .inv .1
 
 returns : tie.Need-returns Inv-loop μ-loop
 returns c =

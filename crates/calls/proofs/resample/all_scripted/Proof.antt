@@ -66,22 +66,23 @@ loop-again : tie.Need-loop-again Inv-loop μ-loop
 loop-again c =
     let l = c .before .before .before .before .before .before .before .before .before .before .loop in
     let t = c .before .before .before .before .before .before .before .before .before .loop-test .taken in
+    let k = c .before .before .before .before .one-call .kept in
     let o = c .before .before .before .before .one-call .ensures in
     let a = c .before .before .before .before .before .before .before .before .before .before .before .before .before .before .before .before .args in
     let room : 2 * l .i + 2 ≤ length (l .answers) = omega (arith, t, c .before .before .before .before .before .before .before .before .before .before .before .smaller .ensures .2, l .inv .2) in (
       omega (arith, t),
-      search needs,
-      search needs,
+      k .1 .1 .1 .1 .0 ∙ l .inv .1,
+      k .1 .1 .1 .1 .1 .0 ∙ l .inv .2,
       o .1,
       scripted-step (a .script .now) (l .i) _ _ room _ _ _ _ _ (l .inv .3 .written) (o .0) _ _ (omega (arith, t)) ∙ l .inv .4,
       state-step (a .script .now) (l .i) _ _ room _ _ _ _ _ (l .inv .3 .written) (o .0) _ _ (omega (arith, t)) ∙ l .inv .5,
     )
 
 same-length : tie.Need-same-length Inv-loop μ-loop
-same-length c = search needs
+same-length c = c .before .before .loop .inv .1
 
 same-length-2 : tie.Need-same-length-2 Inv-loop μ-loop
-same-length-2 c = search needs
+same-length-2 c = c .before .before .loop .inv .2
 
 returns : tie.Need-returns Inv-loop μ-loop
 returns c =

@@ -58,10 +58,10 @@ add-t17 c =
     omega (arith, w, to .ensures .1, c .before .before .before .before .before .before .before .before .output .given .1, s .good)
 
 same-length : tie.Need-same-length
-same-length c = search needs
+same-length c = c .before .before .before .before .before .before .before .before .output .given .1
 
 same-length-2 : tie.Need-same-length-2
-same-length-2 c = search needs
+same-length-2 c = c .before .before .before .before .tell .kept .0
 
 returns : tie.Need-returns
 returns c =

@@ -16,7 +16,9 @@ same-length : tie.Need-same-length
 same-length c = search needs
 
 returns : tie.Need-returns
-returns c = cc
+returns c =
+    let n = c .before .before .before .before .numbers-of .ensures in
+    rw (← c .before .before .before .before .before .max-output-len .ensures, ← n .0, ← n .1) (c .before .before .tell .ensures)
 
 pub one-length-spec : {M : Type 1} → statement M
 one-length-spec =

@@ -68,22 +68,23 @@ loop-again c =
     let l = c .before .before .before .before .before .before .before .before .before .before .loop in
     let t = c .before .before .before .before .before .before .before .before .before .loop-test .taken in
     let n = c .before .before .before .before .before .before .before .before .before .before .before .smaller .ensures in
+    let k = c .before .before .before .before .one-call .kept in
     let o = c .before .before .before .before .one-call .ensures in
     let script = c .before .before .before .before .before .before .before .before .before .before .before .before .before .before .before .before .args .script .now in
     let room : 3 * l .i + 3 ≤ length (l .answers) = omega (arith, t, n .2, l .inv .2) in (
       omega (arith, t),
-      search needs,
-      search needs,
+      k .1 .1 .1 .1 .0 ∙ l .inv .1,
+      k .1 .1 .1 .1 .1 .0 ∙ l .inv .2,
       o .1,
       send-step sends script (l .i) _ _ room _ _ _ _ _ (o .0) _ _ (omega (arith, t)) ∙ l .inv .4,
       sender-step sends script (l .i) _ _ room _ _ _ _ _ (o .0) _ _ (omega (arith, t)) ∙ l .inv .5,
     )
 
 same-length : tie.Need-same-length Inv-loop μ-loop
-same-length c = search needs
+same-length c = c .before .before .loop .inv .1
 
 same-length-2 : tie.Need-same-length-2 Inv-loop μ-loop
-same-length-2 c = search needs
+same-length-2 c = c .before .before .loop .inv .2
 
 returns : tie.Need-returns Inv-loop μ-loop
 returns c =

@@ -67,10 +67,10 @@ tell-sent-requires : tie.Need-tell-sent-requires
 tell-sent-requires c κs = search needs
 
 same-length : tie.Need-same-length
-same-length c = search needs
+same-length c = c .before .before .before .before .before .before .before .samples .given .1
 
 same-length-2 : tie.Need-same-length-2
-same-length-2 c = search needs
+same-length-2 c = c .before .before .tell-sent .kept .0
 
 returns : tie.Need-returns
 returns c =

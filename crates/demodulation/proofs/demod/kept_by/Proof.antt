@@ -16,7 +16,7 @@ returns : tie.Need-returns
 returns c = search needs
 
 returns-2 : tie.Need-returns-2
-returns-2 c = cc
+returns-2 c = rw (c .before .enum-told2 .given .1) (c .dropped-at .ensures)
 
 pub kept-by-spec : {M : Type 1} → statement M
 kept-by-spec = tie.close (tie.spec enum-told enum-told-2 dropped-at-requires returns returns-2)

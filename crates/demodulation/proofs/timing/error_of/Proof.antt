@@ -12,7 +12,7 @@ absolute-requires-2 c κs = search needs
 
 returns : tie.Need-returns
 unfolding errorOf
-returns c = cc
+returns c = rw (c .absolute2 .ensures, c .before .absolute .ensures)
 
 pub error-of-spec : {M : Type 1} → statement M
 error-of-spec = tie.close (tie.spec absolute-requires absolute-requires-2 returns)

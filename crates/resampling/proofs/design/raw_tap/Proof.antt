@@ -32,7 +32,7 @@ blackman-at-requires c κs = search needs
 
 returns : tie.Need-returns
 unfolding rawTap
-returns c = cc
+returns c = rw (c .blackman-at .ensures, c .before .sinc-at .ensures, c .before .before .cutoff-of .ensures, c .before .before .before .before .before .before .pre .0)
 
 pub raw-tap-spec : {M : Type 1} → statement M
 raw-tap-spec =

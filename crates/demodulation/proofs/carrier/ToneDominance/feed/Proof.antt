@@ -18,7 +18,7 @@ add-t15 c = search needs
 
 returns : tie.Need-returns
 unfolding dominanceStep
-returns c = rw (lt-ltb (c .before .before .before .before .before .before .args .self .count + 1) 256 (omega arith)) (cc)
+returns c = rw (lt-ltb (c .before .before .before .before .before .before .args .self .count + 1) 256 (omega arith), c .before .before .feed2 .ensures, c .before .before .before .feed5 .ensures)
 
 best-requires : tie.Need-best-requires
 best-requires c κs = search needs

@@ -12,7 +12,7 @@ reset2-requires c κs = search needs
 
 returns : tie.Need-returns
 unfolding dominanceReset
-returns c = cc
+returns c = rw (c .reset2 .ensures, c .before .reset5 .ensures)
 
 pub reset-spec : {M : Type 1} → statement M
 reset-spec = tie.close (tie.spec reset5-requires reset2-requires returns)

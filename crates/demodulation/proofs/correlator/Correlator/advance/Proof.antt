@@ -18,11 +18,11 @@ add-self c = search needs
 
 returns : tie.Need-returns
 unfolding advanced
-returns c = rw (lt-ltb (c .before .before .before .before .before .args .self .pos + 1) 27 (omega arith)) (cc)
+returns c = rw (lt-ltb (c .before .before .before .before .before .args .self .pos + 1) 27 (omega arith), c .before .before .before .turn2 .ensures, c .before .before .before .before .turn .ensures)
 
 returns-2 : tie.Need-returns-2
 unfolding advanced
-returns-2 c = rw (le-ltb (c .before .before .before .before .args .self .pos + 1) 27 (omega arith)) (cc)
+returns-2 c = rw (le-ltb (c .before .before .before .before .args .self .pos + 1) 27 (omega arith), c .before .before .turn2 .ensures, c .before .before .before .turn .ensures)
 
 pub advance-spec : {M : Type 1} → statement M
 advance-spec = tie.close (tie.spec turn-requires turn-requires-2 add-self returns returns-2)

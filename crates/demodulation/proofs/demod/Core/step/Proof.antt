@@ -1,18 +1,23 @@
 -- In the order of the code: each part is what its function ensures. `Core::feed` says whether the rings are filled.
-use mathlib.Core.Path.{_≡_, sym, ap, _∙_}
+use mathlib.Core.Path.{_≡_, sym, ap, ap₂, _∙_}
 use mathlib.Core.Bool.{true, false}
+use mathlib.Core.List.{List}
 use native.Mathlib.Omega.{arith}
 use borrow.Author.Needs.{needs}
 use borrow.Author.Tests.{not-true, not-false}
+use lib.ListN.{set}
 use lib.Ieee.{Float}
+use Rattle.numeric.specs.F64.{_⊗_}
+use Rattle.numeric.specs.Sine.{sineOf, cosineOf}
 use Rattle.demodulation.specs.Carrier.{updated}
-use Rattle.demodulation.specs.Correlation.{magnitudeOf, decisionOf, multiplied}
-use Rattle.demodulation.specs.Demod.{Demodulator, latched, fed, finished, decoded, stepOf}
-use Rattle.demodulation.specs.DemodRep.{demodulator, stepWith}
+use Rattle.demodulation.specs.Correlation.{ringsOf, magnitudeOf, decisionOf, multiplied}
+use Rattle.demodulation.specs.Demod.{Demodulator, Step, latched, fed, finished, decoded, stepOf}
+use Rattle.demodulation.specs.DemodRep.{demodulator, stepWith, Feeds, Finishes}
 use Rattle.demodulation.proofs.DemodLaws.{step-waits, step-decodes}
 use Rattle.demodulation.specs.declared.carrier.CarrierDetector.{CarrierDetector}
 use Rattle.demodulation.specs.declared.demod.Core.{Core}
 use Rattle.demodulation.specs.declared.demod.CoreStep.{CoreStep}
+use Rattle.demodulation.specs.declared.correlator.Correlator.{Correlator}
 use Rattle.demodulation.specs.declared.correlator.Decision.{Decision}
 use Rattle.demodulation.specs.declared.demod.Latch.{Latch}
 use Rattle.demodulation.specs.declared.correlator.Rings.{Rings}
@@ -22,9 +27,28 @@ use Rattle.demodulation.proofs.SummingLaws.{summed-kept, tone-end}
 use Rattle.demodulation.proofs.demod.Core.step.Statement.{statement}
 use Rattle.demodulation.proofs.demod.Core.step.Tie as tie
 
-module _ (d : Demodulator) (s : Float) (r : Rings) (k : Core) (is : demodulator r k ≡ fed d s) where
-  waits : k .corr .filled ≡ false → stepWith r (record { core = k; heard = Waiting; event = Nothing }) ≡ stepOf d s
-  waits e = rw is (sym (step-waits d s (ap (λ (x : Demodulator). x .corr .filled) (sym is) ∙ e)))
+-- the rings after the sample are the definition's products
+products : (r : Rings) (c : Correlator) (s mi mq si sq : Float) (mark-i mark-q space-i space-q : List Float)
+    → (mi ≡ cosineOf (c .«phase_m»)) × (mq ≡ sineOf (c .«phase_m»)) × (si ≡ cosineOf (c .«phase_s»)) × (sq ≡ sineOf (c .«phase_s»))
+    → (mark-i ≡ set (r .«mark_i») (c .pos) (s ⊗ mi)) × (mark-q ≡ set (r .«mark_q») (c .pos) (s ⊗ mq))
+    → (space-i ≡ set (r .«space_i») (c .pos) (s ⊗ si)) × (space-q ≡ set (r .«space_q») (c .pos) (s ⊗ sq))
+    → ringsOf mark-i mark-q space-i space-q ≡ multiplied r c s
+products r c s mi mq si sq mark-i mark-q space-i space-q w m n = rw (n .1, n .0, m .1, m .0, w .0, w .1, w .2, w .3)
+
+-- what a decision makes of the state
+abbrev after : Demodulator → Decision → Step
+after d o =
+    finished d (updated (d .carrier) (o .energy)) (latched (d .latch) (d .«gate_open») (updated (d .carrier) (o .energy) .detected)) (o .soft)
+
+-- the rings before the sample and r after it, the core c before it and k after `feed`
+module _ (before : Rings) (c : Core) (s : Float) (r : Rings) (k : Core) (m : r ≡ multiplied before (c .corr) s) (f : Feeds c s k) where
+  is : demodulator r k ≡ fed (demodulator before c) s
+  is = ap (λ (x : Rings). demodulator x k) m ∙ f before
+
+  waits : k .corr .filled ≡ false → stepWith r (record { core = k; heard = Waiting; event = Nothing }) ≡ stepOf (demodulator before c) s
+  waits e =
+      ap (λ (x : Demodulator). record { state = x; heard = Waiting; event = Nothing }) is
+      ∙ sym (step-waits (demodulator before c) s (ap (λ (x : Demodulator). x .corr .filled) (sym is) ∙ e))
 
   decodes : (m n : Float) (o : Decision) (carrier : CarrierDetector) (latch : Latch) (x : CoreStep)
       → k .corr .filled ≡ true
@@ -33,11 +57,15 @@ module _ (d : Demodulator) (s : Float) (r : Rings) (k : Core) (is : demodulator 
       → o ≡ decisionOf m n
       → carrier ≡ updated (k .carrier) (o .energy)
       → latch ≡ latched (k .latch) (k .«gate_open») (carrier .detected)
-      → stepWith r x ≡ finished (demodulator r k) carrier latch (o .soft)
-      → stepWith r x ≡ stepOf d s
+      → Finishes k carrier latch (o .soft) x
+      → stepWith r x ≡ stepOf (demodulator before c) s
   decodes m n o carrier latch x e em en eo ec el ex =
-      let here : stepWith r x ≡ decoded (demodulator r k) = rw (ex, el, ec, eo, en, em) in
-      here ∙ ap decoded is ∙ sym (step-decodes d s (ap (λ (x : Demodulator). x .corr .filled) (sym is) ∙ e))
+      ex r
+      ∙ ap (λ (l : Latch). finished (demodulator r k) carrier l (o .soft)) el
+      ∙ ap (λ (h : CarrierDetector). finished (demodulator r k) h (latched (k .latch) (k .«gate_open») (h .detected)) (o .soft)) ec
+      ∙ ap (after (demodulator r k)) (eo ∙ ap₂ decisionOf em en)
+      ∙ ap decoded is
+      ∙ sym (step-decodes (demodulator before c) s (ap (λ (x : Demodulator). x .corr .filled) (sym is) ∙ e))
 
 waves-requires : tie.Need-waves-requires
 waves-requires c κs = search needs
@@ -57,7 +85,9 @@ returns c =
     let n = f .before in
     let m = n .before .before .before in
     let w = m .before .before .before .waves .ensures in
-    waits _ _ _ _ (rw (n .multiply2 .ensures .1, n .multiply2 .ensures .0, m .multiply .ensures .1, m .multiply .ensures .0, w .0, w .1, w .2, w .3) (f .feed .ensures _))
+    let a = m .before .before .before .before .before .args in
+    let r = ringsOf (a .mark-i .now) (a .mark-q .now) (a .space-i .now) (a .space-q .now) in
+    waits r (a .self) (a .s) _ _ (products r (a .self .corr) (a .s) _ _ _ _ _ _ _ _ w (m .multiply .ensures) (n .multiply2 .ensures)) (f .feed .ensures)
     (not-true (f .feed .result .corr .filled) (c .if1 .taken))
 
 sums-on-requires : tie.Need-sums-on-requires
@@ -65,11 +95,12 @@ sums-on-requires c κs =
     let n = c .before .before .before .before .before .before .before in
     let m = n .before .before .before in
     let w = m .before .before .before .waves .ensures in
-    let a = m .before .before .before .before .before in (
+    let a = m .before .before .before .before .before in
+    let r = ringsOf (a .args .mark-i .now) (a .args .mark-q .now) (a .args .space-i .now) (a .args .space-q .now) in (
       omega (arith, a .pre .0),
       omega arith,
-      summed-kept (a .args .self .corr) (a .args .s) _ _ _ (a .pre .1)
-          (rw (n .multiply2 .ensures .1, n .multiply2 .ensures .0, m .multiply .ensures .1, m .multiply .ensures .0, w .0, w .1, w .2, w .3)),
+      summed-kept (a .args .self .corr) (a .args .s) r _ _ (a .pre .1)
+          (products r (a .args .self .corr) (a .args .s) _ _ _ _ _ _ _ _ w (m .multiply .ensures) (n .multiply2 .ensures)),
     )
 
 roots-requires : tie.Need-roots-requires
@@ -98,10 +129,12 @@ returns-2 c =
     let n = f .before in
     let m = n .before .before .before in
     let w = m .before .before .before .waves .ensures in
-    decodes _ _ _ _ (rw (n .multiply2 .ensures .1, n .multiply2 .ensures .0, m .multiply .ensures .1, m .multiply .ensures .0, w .0, w .1, w .2, w .3) (f .feed .ensures _)) _ _ _ _ _ (c .finish .result)
+    let a = m .before .before .before .before .before .args in
+    let r = ringsOf (a .mark-i .now) (a .mark-q .now) (a .space-i .now) (a .space-q .now) in
+    decodes r (a .self) (a .s) _ _ (products r (a .self .corr) (a .s) _ _ _ _ _ _ _ _ w (m .multiply .ensures) (n .multiply2 .ensures)) (f .feed .ensures) _ _ _ _ _ (c .finish .result)
     (not-false (f .feed .result .corr .filled) (i .if1 .left)) (tone-end _ _ _ _ _ (t .mark-i) (t .mark-q) (y .roots .ensures .0))
     (tone-end _ _ _ _ _ (t .space-i) (t .space-q) (y .roots .ensures .1)) (o .decide .ensures) (u .update .ensures)
-    (c .before .see .ensures) (c .finish .ensures _)
+    (c .before .see .ensures) (c .finish .ensures)
 
 pub step-spec : {M : Type 1} → statement M
 step-spec =

@@ -9,7 +9,7 @@ cosine-requires c κs = search needs
 
 returns : tie.Need-returns
 unfolding goertzelNew
-returns c = cc
+returns c = rw (c .cosine .ensures)
 
 pub new-spec : {M : Type 1} → statement M
 new-spec = tie.close (tie.spec cosine-requires returns)

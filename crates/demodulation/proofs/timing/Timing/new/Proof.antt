@@ -7,7 +7,7 @@ samples-per-symbol-requires : tie.Need-samples-per-symbol-requires
 samples-per-symbol-requires c κs = search needs
 
 returns : tie.Need-returns
-returns c = cc
+returns c = rw (c .samples-per-symbol .ensures)
 
 pub new-spec : {M : Type 1} → statement M
 new-spec = tie.close (tie.spec samples-per-symbol-requires returns)
