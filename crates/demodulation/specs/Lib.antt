@@ -4,6 +4,7 @@ pub mod Carrier
 pub mod Selftest
 pub mod Correlation
 pub mod Summing
+pub mod Waves
 pub mod Timing
 pub mod Pace
 pub mod Demod

@@ -12,6 +12,7 @@ use crate::correlator::sums_on;
 use crate::kind::Kind;
 use crate::timing::Timing;
 use crate::timing::slice;
+use crate::waves::Quadrature;
 use crate::waves::waves;
 use bell103::Role;
 use bell103::tones;
@@ -24,6 +25,7 @@ ghost use Prim.Native.Nat.{_<_};
 ghost use Rattle.demodulation.specs.Carrier.{yesOf};
 ghost use Rattle.demodulation.specs.Correlation.{ringsOf};
 ghost use Rattle.demodulation.specs.Summing.{Summed};
+ghost use Rattle.demodulation.specs.Waves.{Waved};
 ghost use Rattle.demodulation.specs.Demod.{gateAfter, latched, eventOf, droppedAt, keptBy, stepOf, freshDemodulator, reported};
 ghost use Rattle.demodulation.specs.DemodRep.{demodulator, demodulatorOf, stepWith, stepped, Feeds, Finishes, DemodSound};
 
@@ -205,22 +207,25 @@ impl Core {
         }
     }
 
-    // One sample, the rings lent, with their sums over the places before the sample's.
+    // One sample, the rings lent, with their sums over the places before the sample's, and the tones' cosines and sines at it.
     pub(crate) fn step(
         self,
         mark_i: &mut [f64; 27],
         mark_q: &mut [f64; 27],
         space_i: &mut [f64; 27],
         space_q: &mut [f64; 27],
+        w: Quadrature,
         sums: Sums,
         s: f64,
     ) -> CoreStep
-        requires { ⌜ (self .corr .pos < 27) × Summed (self .corr .pos) (ringsOf (now «mark_i») (now «mark_q») (now «space_i») (now «space_q»)) sums ⌝ }
+        requires { ⌜
+            (self .corr .pos < 27)
+            × Summed (self .corr .pos) (ringsOf (now «mark_i») (now «mark_q») (now «space_i») (now «space_q»)) sums
+            × Waved (self .corr) w ⌝ }
         ensures { λ r. ⌜ stepWith (ringsOf (now («mark_i» .exit)) (now («mark_q» .exit)) (now («space_i» .exit)) (now («space_q» .exit))) r
             ≡ stepOf (demodulator (ringsOf (now («mark_i» .entry)) (now («mark_q» .entry)) (now («space_i» .entry)) (now («space_q» .entry))) self) s ⌝ }
     {
         let corr = self.corr;
-        let w = waves(corr.phase_m, corr.phase_s);
         multiply(mark_i, mark_q, corr.pos, w.mark_i, w.mark_q, s);
         multiply(space_i, space_q, corr.pos, w.space_i, w.space_q, s);
         let fed = self.feed(s);
@@ -293,11 +298,13 @@ impl Demodulator {
         let core = self.core;
         let corr = core.corr;
         let sums = sums_before(mark_i, mark_q, space_i, space_q, corr.pos);
+        let w = waves(corr.phase_m, corr.phase_s);
         let t = core.step(
             &mut mark_i,
             &mut mark_q,
             &mut space_i,
             &mut space_q,
+            w,
             sums,
             s,
         );

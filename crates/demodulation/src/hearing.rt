@@ -3,6 +3,8 @@ use crate::correlator::next_sums;
 use crate::correlator::sums_before;
 use crate::demod::Demodulator;
 use crate::demod::Event;
+use crate::waves::waves;
+use crate::waves::waves_ahead;
 use framing::frame::Heard;
 ghost use mathlib.Core.Path.{_≡_};
 ghost use mathlib.Core.List.{[], _∷_};
@@ -102,7 +104,8 @@ pub struct HeardAll {
     pub count: usize,
 }
 
-// Hears each sample. What changes at a sample is small or lent.
+// Hears each sample. What changes at a sample is small or lent. The next sample's cosines and sines wait for nothing of this one, and so are taken
+// before it is heard, beside it.
 fn hear_each(d: Demodulator, samples: &[f64], codes: &mut [u16; 2052]) -> HeardAll
     requires { ⌜ Hearable d (now samples) (now codes) ⌝ }
     ensures { λ r. ⌜ HearsInto d (now (samples .entry)) (now (codes .entry)) r (now (codes .exit)) ⌝ }
@@ -115,16 +118,19 @@ fn hear_each(d: Demodulator, samples: &[f64], codes: &mut [u16; 2052]) -> HeardA
     let mut core = d.core;
     let corr = core.corr;
     let mut sums = sums_before(mark_i, mark_q, space_i, space_q, corr.pos);
+    let mut w = waves(corr.phase_m, corr.phase_s);
     let mut count = 0;
     let mut i = 0;
     while i < samples.len() {
         let place = core.corr;
         let was = core.carrier.detected;
+        let ahead = waves_ahead(place);
         let t = core.step(
             &mut mark_i,
             &mut mark_q,
             &mut space_i,
             &mut space_q,
+            w,
             sums,
             samples[i],
         );
@@ -132,6 +138,7 @@ fn hear_each(d: Demodulator, samples: &[f64], codes: &mut [u16; 2052]) -> HeardA
         let heard = t.heard;
         let event = t.event;
         core = t.core;
+        w = ahead;
         count = put_step(codes, count, was, core.carrier.detected, event, heard);
         i += 1;
     }

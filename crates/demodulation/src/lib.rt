@@ -3,7 +3,7 @@
 //
 //   goertzel     how much of one frequency is in a block      specs/Goertzel.antt
 //   carrier      the detector, and dominance                  specs/Carrier.antt
-//   waves        the two tones' cosines and sines             specs/Correlation.antt
+//   waves        the two tones' cosines and sines             specs/Waves.antt
 //   correlator   each sample against the two tones            specs/Correlation.antt, Summing.antt
 //   timing       where a symbol ends, and its bit             specs/Timing.antt, Pace.antt, Symbols.antt
 //   kind         bare, or for a board                         specs/Timing.antt: limitedBy

@@ -1,8 +1,10 @@
 // Cosine and sine of the two tones' phases, side by side.
+use crate::correlator::Correlator;
+use numeric::phase::turn;
 use numeric::sine::QUARTER;
 use numeric::sines::sines;
-ghost use mathlib.Core.Path.{_≡_};
-ghost use Rattle.numeric.specs.Sine.{sineOf, cosineOf};
+ghost use Rattle.demodulation.specs.Correlation.{advanced};
+ghost use Rattle.demodulation.specs.Waves.{InQuadrature, Waved};
 
 // The mark's cosine and sine, and the space's.
 pub struct Quadrature {
@@ -13,7 +15,7 @@ pub struct Quadrature {
 }
 
 pub fn waves(m: f64, s: f64) -> Quadrature
-    ensures { λ r. ⌜ (r .«mark_i» ≡ cosineOf m) × (r .«mark_q» ≡ sineOf m) × (r .«space_i» ≡ cosineOf s) × (r .«space_q» ≡ sineOf s) ⌝ }
+    ensures { λ r. ⌜ InQuadrature m s r ⌝ }
 {
     let v = sines(m + QUARTER, m, s + QUARTER, s);
     Quadrature {
@@ -22,4 +24,11 @@ pub fn waves(m: f64, s: f64) -> Quadrature
         space_i: v.third,
         space_q: v.fourth,
     }
+}
+
+// Those of the next sample.
+pub fn waves_ahead(c: Correlator) -> Quadrature
+    ensures { λ r. ⌜ Waved (advanced c) r ⌝ }
+{
+    waves(turn(c.phase_m, c.inc_m), turn(c.phase_s, c.inc_s))
 }

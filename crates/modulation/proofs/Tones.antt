@@ -42,24 +42,30 @@ unfolding ticked ncoNext
 once t k k′ v e ev = ap₂ tick ev e
 
 -- a sample, and then others
-then : (n : ℕ) (t : TonePair) (k k′ k″ : Keyer) (v : Float) (xs : List Float) → tick v k′ ≡ ticked t k → sound xs k″ ≡ generated n t k′ → sound (v ∷ xs) k″ ≡ generated (suc n) t k
+pub then : (n : ℕ) (t : TonePair) (k k′ k″ : Keyer) (v : Float) (xs : List Float) → tick v k′ ≡ ticked t k → sound xs k″ ≡ generated n t k′ → sound (v ∷ xs) k″ ≡ generated (suc n) t k
 unfolding generated
 then n t k k′ k″ v xs e es =
     let es′ : sound xs k″ ≡ generated n t (ticked t k .after) = es ∙ ap (λ (z : Tick). generated n t (z .after)) e in
     ap₂ (λ (x : Float) (s : Sound). sound (x ∷ s .samples) (s .after)) (ap (λ (z : Tick). z .value) e) es′
 
-pub four-are : (t : TonePair) (k k₁ k₂ k₃ k₄ : Keyer) (a b c d : Float) → tick a k₁ ≡ ticked t k → tick b k₂ ≡ ticked t k₁ → tick c k₃ ≡ ticked t k₂ → tick d k₄ ≡ ticked t k₃
-    → sound (a ∷ b ∷ c ∷ d ∷ []) k₄ ≡ generated 4 t k
+pub then-none : (t : TonePair) (k : Keyer) → sound [] k ≡ generated 0 t k
 unfolding generated
-four-are t k k₁ k₂ k₃ k₄ a b c d e₁ e₂ e₃ e₄ =
-    then 3 t k k₁ k₄ a (b ∷ c ∷ d ∷ []) e₁ (then 2 t k₁ k₂ k₄ b (c ∷ d ∷ []) e₂ (then 1 t k₂ k₃ k₄ c (d ∷ []) e₃ (then 0 t k₃ k₄ k₄ d [] e₄ refl)))
+then-none t k = refl
+
+-- m samples, and then j others
+abbrev followed : TonePair → ℕ → Sound → Sound
+followed t j s = sound (s .samples ++ generated j t (s .after) .samples) (generated j t (s .after) .after)
+
+generated-more : (m j : ℕ) (t : TonePair) (k : Keyer) → generated (m + j) t k ≡ followed t j (generated m t k)
+unfolding generated
+generated-more zero j t k = let z : 0 + j ≡ j = omega arith in rw z
+generated-more (suc m) j t k =
+    let z : suc m + j ≡ suc (m + j) = omega arith in
+    rw z (ap (λ (s : Sound). sound (ticked t k .value ∷ s .samples) (s .after)) (generated-more m j t (ticked t k .after)))
 
 -- ---- a slice of samples
 pub left-turn : (n i : ℕ) → i < n → n - i ≡ suc (n - (i + 1))
 left-turn n i h = omega arith
-
-left-four : (n i : ℕ) → i + 3 < n → n - i ≡ suc (suc (suc (suc (n - (i + 4)))))
-left-four n i h = omega arith
 
 pub left-none : (n i : ℕ) → n ≤ i → n - i ≡ 0
 left-none n i h = omega arith
@@ -67,24 +73,32 @@ left-none n i h = omega arith
 pub one-set : {A : Type 0} (out : List A) (i : ℕ) (v : A) → i < length out → take (i + 1) (set out i v) ≡ take i out ++ (v ∷ [])
 one-set out i v h = rw add-one (take-suc-set out i v h)
 
-four-set : (out : List Float) (i : ℕ) (a b c d : Float) → i + 3 < length out
-    → take (i + 4) (set (set (set (set out i a) (i + 1) b) (i + 2) c) (i + 3) d) ≡ take i out ++ (a ∷ b ∷ c ∷ d ∷ [])
-four-set out i a b c d h =
-    let o₁ = set out i a in
-    let o₂ = set o₁ (i + 1) b in
-    let o₃ = set o₂ (i + 2) c in
-    let l₁ = length-set out i a in
-    let l₂ = length-set o₁ (i + 1) b in
-    let l₃ = length-set o₂ (i + 2) c in
-    let z₂ : i + 2 ≡ i + 1 + 1 = omega arith in
-    let z₃ : i + 3 ≡ i + 2 + 1 = omega arith in
-    let z₄ : i + 4 ≡ i + 3 + 1 = omega arith in
-    let e₁ = one-set out i a (omega arith) in
-    let e₂ : take (i + 2) o₂ ≡ take i out ++ (a ∷ []) ++ (b ∷ []) =
-    ap (λ (j : ℕ). take j o₂) z₂ ∙ one-set o₁ (i + 1) b (omega (arith, l₁)) ∙ ap (λ (xs : List Float). xs ++ (b ∷ [])) e₁ in
-    let e₃ : take (i + 3) o₃ ≡ take i out ++ (a ∷ []) ++ (b ∷ []) ++ (c ∷ []) =
-    ap (λ (j : ℕ). take j o₃) z₃ ∙ one-set o₂ (i + 2) c (omega (arith, l₁, l₂)) ∙ ap (λ (xs : List Float). xs ++ (c ∷ [])) e₂ in
-    ap (λ (j : ℕ). take j (set o₃ (i + 3) d)) z₄ ∙ one-set o₃ (i + 3) d (omega (arith, l₁, l₂, l₃)) ∙ ap (λ (xs : List Float). xs ++ (d ∷ [])) e₃ ∙ simp append-assoc
+-- o is out with the n samples xs stored from place i on
+pub record Stored (out : List Float) (i n : ℕ) (o xs : List Float) : Type 0 where
+  pub long : length o ≡ length out
+  pub front : take (i + n) o ≡ take i out ++ xs
+
+module _ (out : List Float) (i : ℕ) where
+  stored-one : (v : Float) → i < length out → Stored out i 1 (set out i v) (v ∷ [])
+  stored-one v h = record { long = length-set out i v; front = one-set out i v h }
+
+  stored-more : (n : ℕ) (o xs : List Float) (v : Float) → i + n < length out → Stored out i n o xs → Stored out i (suc n) (set o (i + n) v) (xs ++ (v ∷ []))
+  stored-more n o xs v h s =
+      let z : i + suc n ≡ i + n + 1 = omega arith in
+      let l : i + n < length o = omega (arith, s .long) in
+      record {
+        long = length-set o (i + n) v ∙ s .long;
+        front = rw (z, one-set o (i + n) v l, s .front, append-assoc);
+      }
+
+  pub stored-eight : (a b c d e f g h : Float) → i + 7 < length out
+      → Stored out i 8 (set (set (set (set (set (set (set (set out i a) (i + 1) b) (i + 2) c) (i + 3) d) (i + 4) e) (i + 5) f) (i + 6) g) (i + 7) h) (a ∷ b ∷ c ∷ d ∷ e ∷ f ∷ g ∷ h ∷ [])
+  stored-eight a b c d e f g h l =
+      stored-more 7 _ _ h (omega arith) (
+      stored-more 6 _ _ g (omega arith) (
+      stored-more 5 _ _ f (omega arith) (
+      stored-more 4 _ _ e (omega arith) (
+      stored-more 3 _ _ d (omega arith) (stored-more 2 _ _ c (omega arith) (stored-more 1 _ _ b (omega arith) (stored-one a (omega arith))))))))
 
 -- the samples written, and those that are left to generate
 abbrev pub soundAt : List Float → ℕ → ℕ → TonePair → Keyer → Sound
@@ -102,15 +116,13 @@ module _ (n : ℕ) (t : TonePair) where
       let ek : k′ ≡ ticked t k .after = ap (λ (z : Tick). z .after) e in
       rw (left-turn n i h, ← ev, ← ek, one-set out i v l, append-assoc)
 
-  -- four samples
-  pub sound-four : (out : List Float) (i : ℕ) (k : Keyer) (a b c d : Float) (k′ : Keyer) → i + 3 < n → i + 3 < length out
-      → sound (a ∷ b ∷ c ∷ d ∷ []) k′ ≡ generated 4 t k
-      → soundAt (set (set (set (set out i a) (i + 1) b) (i + 2) c) (i + 3) d) (i + 4) n t k′ ≡ soundAt out i n t k
-  unfolding generated
-  sound-four out i k a b c d k′ h l e =
-      let j = n - (i + 4) in
-      let on : Sound → Sound = λ s. sound (take i out ++ (s .samples ++ generated j t (s .after) .samples)) (generated j t (s .after) .after) in
-      rw (left-four n i h, four-set out i a b c d l, append-assoc) (ap on e)
+  -- m samples
+  pub sound-more : (out o xs : List Float) (i m : ℕ) (k k′ : Keyer) → i + m ≤ n → Stored out i m o xs → sound xs k′ ≡ generated m t k
+      → soundAt o (i + m) n t k′ ≡ soundAt out i n t k
+  sound-more out o xs i m k k′ h s e =
+      let z : n - i ≡ m + (n - (i + m)) = omega arith in
+      let on : Sound → Sound = λ x. sound (take i out ++ followed t (n - (i + m)) x .samples) (followed t (n - (i + m)) x .after) in
+      rw (z, generated-more m (n - (i + m)) t k, s .front, append-assoc) (ap on e)
 
   -- the rest, by another
   pub sound-rest : (out rest : List Float) (i : ℕ) (k k′ : Keyer) → length out ≡ n → sound rest k′ ≡ generated (n - i) t k

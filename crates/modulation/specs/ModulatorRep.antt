@@ -16,7 +16,7 @@ use Rattle.bell103.specs.declared.TonePair.{TonePair}
 use Rattle.resampling.specs.declared.resample.Resampler.{Resampler}
 use Rattle.modulation.specs.declared.modulate.Wave.{Wave}
 use Rattle.modulation.specs.declared.modulate.Settings.{Settings}
-use Rattle.modulation.specs.declared.modulate.TickedFour.{TickedFour}
+use Rattle.modulation.specs.declared.modulate.TickedEight.{TickedEight}
 use Rattle.modulation.specs.declared.modulate.Passed.{Passed}
 
 -- the bits stand in a ring beside what moves with each sample
@@ -27,9 +27,9 @@ keyerOf a w = keyer (w .nco) (w .«sym_pos») (w .current) (queued a (w .head) (
 abbrev pub WaveHeld : List Bool → Wave → Type 0
 WaveHeld a w = BitsHeld a (w .head) (w .waiting)
 
--- four samples, oldest first
-abbrev pub fourOf : TickedFour → List Float
-fourOf t = t .first ∷ t .second ∷ t .third ∷ t .fourth ∷ []
+-- eight samples, oldest first
+abbrev pub eightOf : TickedEight → List Float
+eightOf t = t .first ∷ t .second ∷ t .third ∷ t .fourth ∷ t .fifth ∷ t .sixth ∷ t .seventh ∷ t .eighth ∷ []
 
 -- the samples that are pending stand in an array from one place to another
 abbrev pub pendingIn : List Float → ℕ → ℕ → List Float

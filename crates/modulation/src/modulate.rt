@@ -9,7 +9,7 @@ use numeric::counts::nearest;
 use numeric::ends::smaller;
 use numeric::phase::turn;
 use numeric::sine::sine;
-use numeric::sines::sines;
+use numeric::sines::sines_eight;
 use refusal::DSP_RATE;
 use resampling::Resampler;
 ghost use mathlib.Core.Path.{_≡_};
@@ -23,7 +23,7 @@ ghost use Rattle.resampling.specs.Resample.{maxOutputLen};
 ghost use Rattle.resampling.specs.ResampleRep.{Sound};
 ghost use Rattle.modulation.specs.Tone.{toneOf, keyed, tick, ticked, sound, generated};
 ghost use Rattle.modulation.specs.Modulator.{scaled};
-ghost use Rattle.modulation.specs.ModulatorRep.{keyerOf, WaveHeld, fourOf, Rising, MakesInto, SharesInto, EqualInto, PassesOver, HandsOver};
+ghost use Rattle.modulation.specs.ModulatorRep.{keyerOf, WaveHeld, eightOf, Rising, MakesInto, SharesInto, EqualInto, PassesOver, HandsOver};
 
 // What moves with each sample: the oscillator, the symbol clock, and where the bits that wait stand in their ring.
 pub struct Wave {
@@ -109,35 +109,52 @@ fn step(bits: &[bool; 4096], t: TonePair, w: Wave) -> Ticked
     Ticked { value, wave }
 }
 
-struct TickedFour {
+struct TickedEight {
     first: f64,
     second: f64,
     third: f64,
     fourth: f64,
+    fifth: f64,
+    sixth: f64,
+    seventh: f64,
+    eighth: f64,
     wave: Wave,
 }
 
-// Four samples, their sines side by side.
-fn step_four(bits: &[bool; 4096], t: TonePair, w: Wave) -> TickedFour
+// Eight samples, their sines side by side.
+fn step_eight(bits: &[bool; 4096], t: TonePair, w: Wave) -> TickedEight
     requires { ⌜ BitsHeld (now bits) (w .head) (w .waiting) ⌝ }
-    ensures { λ r. ⌜ sound (fourOf r) (keyerOf (now (bits .entry)) (r .wave)) ≡ generated 4 t (keyerOf (now (bits .entry)) w) ⌝ }
+    ensures { λ r. ⌜ sound (eightOf r) (keyerOf (now (bits .entry)) (r .wave)) ≡ generated 8 t (keyerOf (now (bits .entry)) w) ⌝ }
     ensures { λ r. ⌜ BitsHeld (now (bits .entry)) (r .wave .head) (r .wave .waiting) ⌝ }
 {
     let one = advance(bits, t, w);
     let two = advance(bits, t, one);
     let three = advance(bits, t, two);
     let four = advance(bits, t, three);
-    let a = w.nco;
-    let b = one.nco;
-    let c = two.nco;
-    let d = three.nco;
-    let v = sines(a.phase, b.phase, c.phase, d.phase);
-    TickedFour {
+    let five = advance(bits, t, four);
+    let six = advance(bits, t, five);
+    let seven = advance(bits, t, six);
+    let eight = advance(bits, t, seven);
+    let v = sines_eight(
+        w.nco.phase,
+        one.nco.phase,
+        two.nco.phase,
+        three.nco.phase,
+        four.nco.phase,
+        five.nco.phase,
+        six.nco.phase,
+        seven.nco.phase,
+    );
+    TickedEight {
         first: v.first,
         second: v.second,
         third: v.third,
         fourth: v.fourth,
-        wave: four,
+        fifth: v.fifth,
+        sixth: v.sixth,
+        seventh: v.seventh,
+        eighth: v.eighth,
+        wave: eight,
     }
 }
 
@@ -158,7 +175,7 @@ fn generate_singly(bits: &[bool; 4096], t: TonePair, w: Wave, out: &mut [f64]) -
     wave
 }
 
-// The same, four by four as far as that goes.
+// The same, eight by eight as far as that goes.
 fn generate(bits: &[bool; 4096], t: TonePair, w: Wave, out: &mut [f64]) -> Wave
     requires { ⌜ BitsHeld (now bits) (w .head) (w .waiting) ⌝ }
     ensures { λ r. ⌜ sound (now (out .exit)) (keyerOf (now (bits .entry)) r) ≡ generated (length (now (out .entry))) t (keyerOf (now (bits .entry)) w) ⌝ }
@@ -166,14 +183,18 @@ fn generate(bits: &[bool; 4096], t: TonePair, w: Wave, out: &mut [f64]) -> Wave
 {
     let mut wave = w;
     let mut i = 0;
-    while i + 3 < out.len() {
-        let s = step_four(bits, t, wave);
+    while i + 7 < out.len() {
+        let s = step_eight(bits, t, wave);
         out[i] = s.first;
         out[i + 1] = s.second;
         out[i + 2] = s.third;
         out[i + 3] = s.fourth;
+        out[i + 4] = s.fifth;
+        out[i + 5] = s.sixth;
+        out[i + 6] = s.seventh;
+        out[i + 7] = s.eighth;
         wave = s.wave;
-        i += 4;
+        i += 8;
     }
     generate_singly(bits, t, wave, &mut out[i..])
 }

@@ -5,6 +5,7 @@ use lib.Ieee.{Float, neg}
 use Rattle.numeric.specs.F64.{_⊖_, _<ᶠ_, _≤ᶠ_, zero64, tau, pi}
 use Rattle.numeric.specs.If.{if_then_else_}
 use Rattle.numeric.specs.Sine.{folded, series}
+use Rattle.numeric.specs.declared.sines.Eight.{Eight}
 
 -- "subtract TAU while x ≥ TAU", once
 unfoldable pub wrapped : Float → Float
@@ -32,3 +33,7 @@ pub record EachOf (f : Float → Float) (x y z w a b c d : Float) : Type 0 where
   pub second : b ≡ f y
   pub third : c ≡ f z
   pub fourth : d ≡ f w
+
+-- .. and of eight
+abbrev pub EightOf : (Float → Float) → Float → Float → Float → Float → Float → Float → Float → Float → Eight → Type 0
+EightOf f a b c d x y z w r = EachOf f a b c d (r .first) (r .second) (r .third) (r .fourth) × EachOf f x y z w (r .fifth) (r .sixth) (r .seventh) (r .eighth)

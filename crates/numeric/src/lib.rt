@@ -3,7 +3,7 @@
 //   compare   maximum, absolute                     specs/F64.antt
 //   phase     turn: the phase of a tone             specs/Phase.antt
 //   sine      sine, cosine, TAU, PI                 specs/Sine.antt
-//   sines     four sines side by side               specs/Sines.antt
+//   sines     four or eight sines side by side      specs/Sines.antt
 //   root      root, roots, for `hypot`              specs/Root.antt
 //   convert   widen, narrow, in_range, wide_in_range   specs/Convert.antt; the bits by which `narrow` works: specs/Patterns.antt
 //   counts    nearest, ceiling: rounded quotients   specs/Counts.antt

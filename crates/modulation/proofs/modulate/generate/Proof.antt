@@ -1,14 +1,14 @@
--- `tx::generate` meets its contract: each turn stores four samples more, and the last are stored singly. Assumes nothing.
-use Prim.Native.Nat.{_+_, _≤_, _-_}
+-- `tx::generate` meets its contract: each turn stores eight samples more, and the last are stored singly. Assumes nothing.
+use Prim.Native.Nat.{_≤_, _-_}
 use mathlib.Core.Path.{_≡_, refl, _∙_}
 use mathlib.Core.List.{[]}
 use native.Mathlib.Omega.{arith}
-use lib.ListN.{length, set, length-set}
+use lib.ListN.{length, length-set}
 use Rattle.modulation.specs.Bits.{BitsHeld}
 use Rattle.modulation.specs.Tone.{generated}
 use Rattle.modulation.specs.ModulatorRep.{keyerOf}
 use Rattle.modulation.proofs.Slices.{lent-length}
-use Rattle.modulation.proofs.Tones.{soundAt, sound-start, sound-four, sound-rest}
+use Rattle.modulation.proofs.Tones.{soundAt, sound-start, stored-eight, sound-more, sound-rest}
 use borrow.Author.Needs.{needs}
 use Rattle.modulation.proofs.modulate.generate.Statement.{statement}
 use Rattle.modulation.proofs.modulate.generate.Tie as tie
@@ -25,8 +25,8 @@ loop-holds c = (omega arith, refl, c .before .pre, sound-start _ _ [] _)
 add-loop : tie.Need-add-loop Inv-loop μ-loop
 add-loop c = omega arith
 
-step-four-requires : tie.Need-step-four-requires Inv-loop μ-loop
-step-four-requires c κs = c .before .loop .inv .2
+step-eight-requires : tie.Need-step-eight-requires Inv-loop μ-loop
+step-eight-requires c κs = c .before .loop .inv .2
 
 mul-out : tie.Need-mul-out Inv-loop μ-loop
 mul-out c = omega arith
@@ -41,9 +41,7 @@ mul-out-2 : tie.Need-mul-out-2 Inv-loop μ-loop
 mul-out-2 c = omega arith
 
 slice-write-out-2 : tie.Need-slice-write-out-2 Inv-loop μ-loop
-slice-write-out-2 c =
-    let l = c .before .before .loop in
-    omega (arith, length-set (l .out) (l .i) (c .step-four .result .first))
+slice-write-out-2 c = simp length-set (omega arith)
 
 add-out-2 : tie.Need-add-out-2 Inv-loop μ-loop
 add-out-2 c = omega arith
@@ -52,10 +50,7 @@ mul-out-3 : tie.Need-mul-out-3 Inv-loop μ-loop
 mul-out-3 c = omega arith
 
 slice-write-out-3 : tie.Need-slice-write-out-3 Inv-loop μ-loop
-slice-write-out-3 c =
-    let l = c .before .before .loop in
-    let v = c .step-four .result in
-    omega (arith, length-set (l .out) (l .i) (v .first), length-set (set (l .out) (l .i) (v .first)) (l .i + 1) (v .second))
+slice-write-out-3 c = simp length-set (omega arith)
 
 add-out-3 : tie.Need-add-out-3 Inv-loop μ-loop
 add-out-3 c = omega arith
@@ -64,7 +59,43 @@ mul-out-4 : tie.Need-mul-out-4 Inv-loop μ-loop
 mul-out-4 c = omega arith
 
 slice-write-out-4 : tie.Need-slice-write-out-4 Inv-loop μ-loop
-slice-write-out-4 c = search needs
+slice-write-out-4 c = simp length-set (omega arith)
+
+add-out-4 : tie.Need-add-out-4 Inv-loop μ-loop
+add-out-4 c = omega arith
+
+mul-out-5 : tie.Need-mul-out-5 Inv-loop μ-loop
+mul-out-5 c = omega arith
+
+slice-write-out-5 : tie.Need-slice-write-out-5 Inv-loop μ-loop
+slice-write-out-5 c = simp length-set (omega arith)
+
+add-out-5 : tie.Need-add-out-5 Inv-loop μ-loop
+add-out-5 c = omega arith
+
+mul-out-6 : tie.Need-mul-out-6 Inv-loop μ-loop
+mul-out-6 c = omega arith
+
+slice-write-out-6 : tie.Need-slice-write-out-6 Inv-loop μ-loop
+slice-write-out-6 c = simp length-set (omega arith)
+
+add-out-6 : tie.Need-add-out-6 Inv-loop μ-loop
+add-out-6 c = omega arith
+
+mul-out-7 : tie.Need-mul-out-7 Inv-loop μ-loop
+mul-out-7 c = omega arith
+
+slice-write-out-7 : tie.Need-slice-write-out-7 Inv-loop μ-loop
+slice-write-out-7 c = simp length-set (omega arith)
+
+add-out-7 : tie.Need-add-out-7 Inv-loop μ-loop
+add-out-7 c = omega arith
+
+mul-out-8 : tie.Need-mul-out-8 Inv-loop μ-loop
+mul-out-8 c = omega arith
+
+slice-write-out-8 : tie.Need-slice-write-out-8 Inv-loop μ-loop
+slice-write-out-8 c = simp length-set (omega arith)
 
 add-i : tie.Need-add-i Inv-loop μ-loop
 add-i c = omega arith
@@ -75,8 +106,12 @@ loop-less c = omega arith
 loop-again : tie.Need-loop-again Inv-loop μ-loop
 loop-again c =
     let l = c .before .before .before .loop in
-    let s = c .before .step-four in
-    (omega arith, simp length-set (l .inv .1), s .ensures .1, sound-four _ _ _ _ _ _ _ _ _ _ (omega arith) (omega arith) (s .ensures .0) ∙ l .inv .3)
+    let s = c .before .step-eight in (
+      omega arith,
+      simp length-set (l .inv .1),
+      s .ensures .1,
+      sound-more _ _ _ _ _ _ 8 _ _ (omega arith) (stored-eight _ _ _ _ _ _ _ _ _ _ (omega arith)) (s .ensures .0) ∙ l .inv .3,
+    )
 
 mul-generate-singly : tie.Need-mul-generate-singly Inv-loop μ-loop
 mul-generate-singly c = search needs
@@ -110,7 +145,7 @@ generate-spec =
     μ-loop
     loop-holds
     add-loop
-    step-four-requires
+    step-eight-requires
     mul-out
     slice-write-out
     add-out
@@ -122,6 +157,18 @@ generate-spec =
     add-out-3
     mul-out-4
     slice-write-out-4
+    add-out-4
+    mul-out-5
+    slice-write-out-5
+    add-out-5
+    mul-out-6
+    slice-write-out-6
+    add-out-6
+    mul-out-7
+    slice-write-out-7
+    add-out-7
+    mul-out-8
+    slice-write-out-8
     add-i
     loop-less
     loop-again

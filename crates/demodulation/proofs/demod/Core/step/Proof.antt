@@ -67,9 +67,6 @@ module _ (before : Rings) (c : Core) (s : Float) (r : Rings) (k : Core) (m : r �
       ∙ ap decoded is
       ∙ sym (step-decodes (demodulator before c) s (ap (λ (x : Demodulator). x .corr .filled) (sym is) ∙ e))
 
-waves-requires : tie.Need-waves-requires
-waves-requires c κs = search needs
-
 multiply-requires : tie.Need-multiply-requires
 multiply-requires c κs = search needs
 
@@ -84,8 +81,9 @@ returns c =
     let f = c .before .before in
     let n = f .before in
     let m = n .before .before .before in
-    let w = m .before .before .before .waves .ensures in
-    let a = m .before .before .before .before .before .args in
+    let b = m .before .before .before .before in
+    let w = b .pre .2 in
+    let a = b .args in
     let r = ringsOf (a .mark-i .now) (a .mark-q .now) (a .space-i .now) (a .space-q .now) in
     waits r (a .self) (a .s) _ _ (products r (a .self .corr) (a .s) _ _ _ _ _ _ _ _ w (m .multiply .ensures) (n .multiply2 .ensures)) (f .feed .ensures)
     (not-true (f .feed .result .corr .filled) (c .if1 .taken))
@@ -94,8 +92,8 @@ sums-on-requires : tie.Need-sums-on-requires
 sums-on-requires c κs =
     let n = c .before .before .before .before .before .before .before in
     let m = n .before .before .before in
-    let w = m .before .before .before .waves .ensures in
-    let a = m .before .before .before .before .before in
+    let a = m .before .before .before .before in
+    let w = a .pre .2 in
     let r = ringsOf (a .args .mark-i .now) (a .args .mark-q .now) (a .args .space-i .now) (a .args .space-q .now) in (
       omega (arith, a .pre .0),
       omega arith,
@@ -128,8 +126,9 @@ returns-2 c =
     let f = i .before .before in
     let n = f .before in
     let m = n .before .before .before in
-    let w = m .before .before .before .waves .ensures in
-    let a = m .before .before .before .before .before .args in
+    let b = m .before .before .before .before in
+    let w = b .pre .2 in
+    let a = b .args in
     let r = ringsOf (a .mark-i .now) (a .mark-q .now) (a .space-i .now) (a .space-q .now) in
     decodes r (a .self) (a .s) _ _ (products r (a .self .corr) (a .s) _ _ _ _ _ _ _ _ w (m .multiply .ensures) (n .multiply2 .ensures)) (f .feed .ensures) _ _ _ _ _ (c .finish .result)
     (not-false (f .feed .result .corr .filled) (i .if1 .left)) (tone-end _ _ _ _ _ (t .mark-i) (t .mark-q) (y .roots .ensures .0))
@@ -140,7 +139,6 @@ pub step-spec : {M : Type 1} → statement M
 step-spec =
     tie.close
     (tie.spec
-    waves-requires
     multiply-requires
     multiply-requires-2
     feed-requires
