@@ -1,4 +1,6 @@
 // Bell 103: roles, symbol rate and tones; how many samples bits last.
+#![tactic(auto)]
+
 ghost use Rattle.std.specs.Prelude.{◌≡◌};
 ghost use Rattle.bell103.specs.Roles.{other_role, tones_of, samples_per_symbol};
 

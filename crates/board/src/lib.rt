@@ -5,6 +5,8 @@
 //   counts, numbers, station: parts of them                specs/Station.antt
 //
 // For a host that calls `new` and `write` itself: specs/Hosted.antt, proofs/HostedLaws.antt.
+#![tactic(auto)]
+
 mod board;
 mod counts;
 mod numbers;

@@ -7,6 +7,8 @@
 //   frames     framing, and deframing in any state                 specs/Frames.antt
 //   shown      what a board shows, as numbers                      specs/Shown.antt
 //   answers, events, roles: answers, events and roles as numbers   specs/Answers.antt, Roles.antt
+#![tactic(auto)]
+
 mod answers;
 mod events;
 mod frames;

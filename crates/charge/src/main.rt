@@ -4,6 +4,8 @@
 //
 //   bill      a month's calls, charged and printed
 //   complain  a line on standard error
+#![tactic(auto)]
+
 mod bill;
 mod complain;
 

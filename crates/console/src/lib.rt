@@ -3,6 +3,8 @@
 //   words     numbers and roles among a command's words       specs/Words.antt
 //   text      tide lines as text, judged and printed          specs/Text.antt
 //   numbers   numbers as text, one a line                     specs/Numbers.antt
+#![tactic(auto)]
+
 mod numbers;
 mod text;
 mod words;

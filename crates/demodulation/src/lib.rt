@@ -9,6 +9,8 @@
 //   kind         bare, or for a board                         specs/Timing.antt: limited_by
 //   demod        one sample                                   specs/Demod.antt, DemodRep.antt
 //   hearing      a list of samples, into lent codes           specs/Demod.antt, Listening.antt
+#![tactic(auto)]
+
 mod carrier;
 mod correlator;
 mod demod;

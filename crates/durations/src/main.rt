@@ -5,6 +5,8 @@
 //
 //   tell       what is printed
 //   complain   a line on standard error
+#![tactic(auto)]
+
 mod complain;
 mod tell;
 

@@ -21,7 +21,7 @@ pub fn frame_byte(b: u8) -> [bool; 10]
 const MOST_ERRORS: u32 = 4294967295;
 
 // Reassembles bytes from sliced bits. Waits for a start bit while idle, takes the next eight bits as data, then checks the stop bit.
-#[derive(Drop)]
+#[derive(Clone, Copy)]
 pub struct Deframer {
     pub in_frame: bool,
     pub bit_count: u8,

@@ -1,2 +1,4 @@
 // Start and stop bits around each byte, and back.
+#![tactic(auto)]
+
 pub mod frame;

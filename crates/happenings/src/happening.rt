@@ -3,7 +3,7 @@ ghost use Rattle.std.specs.Prelude.{◌≡◌, length};
 ghost use Rattle.happenings.specs.Happening.{byte_of, bad_stop_of, happening_of, happenings_of, TallyOf};
 
 // In the order of a step: the detector goes down; the report changes; a byte is complete, or its stop bit is a space.
-#[derive(Drop)]
+#[derive(Clone, Copy)]
 pub enum Happening {
     Byte(u8),
     BadStop,

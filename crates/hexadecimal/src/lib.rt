@@ -1,5 +1,7 @@
 // Uppercase hexadecimal: what the characters of a line say. Tide lines are written so, and so will be settings lines and a survey:
 // whoever reads such a line reads it here. Each function takes any characters, digits or not.
+#![tactic(auto)]
+
 ghost use Rattle.std.specs.Prelude.{◌≡◌, true, ◌%◌, ◌≤◌, ◌<◌, get_or};
 ghost use Rattle.hexadecimal.specs.Hex.{hex, all_hex, first_wrong, Says, unhex, total};
 

@@ -1,4 +1,6 @@
 // A recording of a call on standard input, heard by a board: the lines judged, and the reading.
+#![tactic(auto)]
+
 fn main() {
     listen_app::run();
 }

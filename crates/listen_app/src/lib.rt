@@ -5,6 +5,8 @@
 //   host           the board that hears the blocks         specs/Host.antt
 //   session        standard input, to its end              specs/Session.antt; what is heard of any bytes: specs/Listener.antt
 //   complain       a line on standard error
+#![tactic(auto)]
+
 mod block_reader;
 mod complain;
 mod host;

@@ -6,6 +6,8 @@
 //   listener  what hears, for the receiver and the board    specs/Listener.antt, ListenerRep.antt, Symbols.antt
 //   queue     bytes heard and carrier events that wait      specs/Queue.antt
 //   rx        the receiver                                  specs/Rx.antt, RxRep.antt
+#![tactic(auto)]
+
 mod hear;
 mod listener;
 mod queue;

@@ -9,6 +9,8 @@
 //   queueing   what a caller queues                          specs/Queueing.antt
 //   table      a turn of the sine in 1,600 whole numbers     specs/Table.antt
 //   table_tx   the sender that has no floats                 specs/TableTx.antt, TableTxRep.antt
+#![tactic(auto)]
+
 mod bits;
 mod modulate;
 mod nco;

@@ -3,6 +3,8 @@
 //
 //   fields    the fields of a line             specs/Fields.antt
 //   lines     what a line and the text say     specs/Lines.antt
+#![tactic(auto)]
+
 mod fields;
 mod lines;
 

@@ -4,6 +4,8 @@
 //   gauges   which readings are kept, and what is shown of them    specs/Pool.antt, PoolRep.antt
 //
 // specs/Claims.antt says what holds of every three gauges.
+#![tactic(auto)]
+
 mod gauges;
 mod levels;
 

@@ -1,4 +1,6 @@
 // Refusals: their numbers, and the check of rates. Each crate of the board answers with them.
+#![tactic(auto)]
+
 ghost use Rattle.std.specs.Prelude.{◌≡◌, not};
 ghost use Rattle.refusal.specs.Refusals.{number_of, is_accepted, count_in, rate_refused, rates_refused};
 

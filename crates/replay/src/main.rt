@@ -19,6 +19,8 @@
 //     L n             samples_for_bits of n
 //
 // A call leaves the block empty. Any other line prints `?` with its number, and nothing is done.
+#![tactic(auto)]
+
 mod block;
 mod decoder;
 mod fields;

@@ -8,6 +8,8 @@
 //   feed       a whole input                                specs/Flow.antt, FlowRep.antt
 //   numbers    its arrays, as they are shown                specs/Numbers.antt
 //   resample   the resampler                                specs/Resample.antt, ResampleRep.antt
+#![tactic(auto)]
+
 mod design;
 mod feed;
 mod filter;

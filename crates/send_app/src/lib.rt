@@ -7,6 +7,8 @@
 //   gauge     the same call from the table              specs/Gauge.antt
 //   text      the text, from the source asked for
 //   complain  a line on standard error
+#![tactic(auto)]
+
 mod bytes;
 mod call;
 mod complain;

@@ -6,6 +6,8 @@
 //   words     what the words of the command ask for     specs/Words.antt
 //   page      the file
 //   complain  a line on standard error
+#![tactic(auto)]
+
 mod complain;
 mod page;
 mod words;

@@ -3,6 +3,8 @@
 //   state       the receiver's        specs/ReceiverState.antt, StateSteps.antt
 //   resampler   the resampler's       specs/ResamplerState.antt
 //   sender      the sender's          specs/SenderState.antt
+#![tactic(auto)]
+
 mod resampler;
 mod sender;
 mod state;

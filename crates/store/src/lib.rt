@@ -3,6 +3,8 @@
 //   line      a settings line judged, and one made      specs/Line.antt
 //   reading   the settings that a store holds           specs/Store.antt
 //   writing   settings written into a store             specs/Store.antt
+#![tactic(auto)]
+
 mod line;
 mod reading;
 mod writing;

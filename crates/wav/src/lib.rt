@@ -3,6 +3,8 @@
 //   words    numbers and sizes of a header          specs/Words.antt
 //   sample   a sample's bytes as a number           specs/Sample.antt
 //   wav      the reader                             specs/Wav.antt; what a recording is: specs/Recording.antt
+#![tactic(auto)]
+
 mod sample;
 mod wav;
 mod words;

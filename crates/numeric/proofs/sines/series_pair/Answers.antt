@@ -1,0 +1,9 @@
+-- Each series has its own seven steps, and each literal is the whole number of the list. Assumes nothing.
+use Rattle.std.proofs.Common.{refl}
+use lib.Ieee.{of_bits, of_int}
+use Rattle.numeric.specs.Sine.{series, horner}
+use Rattle.numeric.proofs.sines.series_pair.Goals as goal
+
+pub returns : goal.returns
+unfolding series horner of_bits of_int
+returns c = (refl, refl)

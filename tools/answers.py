@@ -1,0 +1,350 @@
+#!/usr/bin/env python3
+"""Turns proofs that walk the code by `tie.spec`, proofs/F/Proof.antt, to Invariants.antt and Answers.antt.
+
+usage: answers.py NAMES CRATE [F..]
+
+NAMES is the names.json that `rt check --generated DIR --old-names` writes for the crate whose folder is CRATE. Each file of proofs/ that ends in
+`tie.close (tie.spec ..)` is turned, or those of the functions F, as sine/reduce. A need that has no goal of its own today is left out; so is an
+answer that is only `search rules`, which the check tries by itself. It prints what it leaves out for other reasons.
+"""
+import json
+import os
+import re
+import sys
+
+W = r"[^\s(){}.;,@\"«»\[\]\\|]+"
+DECL = re.compile(r"^(?:(?:unfoldable|abbrev|pub|ruleset) )*([^\s(){}:]+)((?: \{[^}]*\})*) :(?=\s)")
+
+
+def blocks(text):
+    """Head (comments, use lines) and declarations: (comments, name, lines)."""
+    head, out, comments, cur = [], [], [], None
+    for line in text.split("\n"):
+        m = DECL.match(line)
+        if m and not line.startswith(("use ", "--")):
+            if cur:
+                out.append(cur)
+            cur = [comments, m.group(1), [line]]
+            comments = []
+        elif line.startswith("--") and (cur is None or cur[2][-1] == "" ):
+            if cur is None and not any(l.startswith("use ") for l in head):
+                head.append(line)
+            else:
+                comments.append(line)
+        elif cur is None:
+            head.append(line)
+        elif line == "" :
+            cur[2].append(line)
+        elif line.startswith("ruleset"):
+            out.append(cur)
+            cur = [comments, line.split()[1], [line]]
+            comments = []
+        else:
+            cur[2].append(line)
+    if cur:
+        out.append(cur)
+    for b in out:
+        while b[2] and b[2][-1] == "":
+            b[2].pop()
+    return head, out
+
+
+def norm(name):
+    name = re.sub(r"^(overflow|nonzero)[-_]", "", name.replace("_", "-"))
+    return name
+
+
+class Names:
+    def __init__(self, data):
+        self.needs = data["needs"]
+        self.loops = data["loops"]
+        self.changed = data["changed"]
+        self.steps, self.fields, self.places = {}, {}, {}
+        for i, p in enumerate(data["places"]):
+            old, parent, (of, nf), callee, fields = p
+            self.places[old] = data["places_by_name"][i]
+            if of:
+                self.steps.setdefault(norm_step(of), []).append(nf)
+                for a, b in fields:
+                    self.fields.setdefault(norm_step(of), {}).setdefault(a, b)
+        # What a match tells of its value: (old step, path) to the arm's field.
+        self.told = {}
+        for arm in data["arms"]:
+            for new, step, path in (arm[2] if arm else []):
+                if path:
+                    self.told.setdefault(".".join([norm_step(step)] + path), arm[0] + "." + new)
+
+    def step(self, old):
+        got = self.steps.get(norm_step(old))
+        if not got:
+            return None
+        return got[0]
+
+
+def norm_step(s):
+    return s.replace("-", "_")
+
+
+def turned_text(text, names):
+    text = re.sub(r"(?:\.before)+(?![\w'-])", "", text)
+    text = re.sub(r"\.(well|type)-(formed|inv)(?![\w'-])", r".\1_\2", text)
+
+    def told(m):
+        parts = m.group(0)[1:].split(".")
+        for n in range(len(parts), 1, -1):
+            key = ".".join([norm_step(parts[0])] + parts[1:n])
+            if key in names.told:
+                return "." + ".".join([names.told[key]] + parts[n:])
+        return m.group(0)
+    text = re.sub(r"\.enum[_-]told[\w'-]*(?:\.[\w'-]+)*", told, text)
+
+    def step(m):
+        old, field = m.group(1), m.group(2)
+        new = names.step(old)
+        if new is None:
+            return m.group(0)
+        fields = names.fields.get(norm_step(old), {})
+        if field:
+            return "." + new + "." + fields.get(field, field)
+        return "." + new
+    text = re.sub(r"\.(" + W + r")(?:\.(" + W + r"))?", lambda m: step(m) if names.step(m.group(1)) else one_by_one(m, names), text)
+    return text
+
+
+def one_by_one(m, names):
+    # the first is no step: the second may be one
+    second = m.group(2)
+    if second and names.step(second):
+        return "." + m.group(1) + "." + names.step(second)
+    return m.group(0)
+
+
+def used(names, text):
+    words = set(re.findall(r"[^\s(){};,.\"\[\]«»]+", text)) | set(re.findall(W, text))
+    keep = []
+    for n in names:
+        short = n.split(" as ")[-1].strip()
+        if "◌" in short:
+            parts = [p for p in short.split("◌") if p]
+            if all(p in words or p in text for p in parts):
+                keep.append(n)
+        elif short in words or short.strip("«»") in words:
+            keep.append(n)
+    return keep
+
+
+def imports(head, text):
+    out = []
+    joined = "\n".join(head)
+    for m in re.finditer(r"(?m)^use (.+?)(?:\n(?=use|--|\n|$)|$)", joined):
+        line = m.group(1).strip()
+        if re.search(r"\.(Statement|Tie|Lts)\b", line) and ".proofs." in line:
+            continue
+        b = re.match(r"(.*)\.\{(.*)\}$", line, re.S)
+        if b:
+            keep = used([x.strip() for x in b.group(2).split(",") if x.strip()], text)
+            if keep:
+                out.append(f"use {b.group(1)}.{{{', '.join(keep)}}}")
+        else:
+            short = line.split(" as ")[-1].split(".")[-1].strip()
+            if re.search(r"(?<![\w.])" + re.escape(short) + r"\.", text):
+                out.append("use " + line)
+    return out
+
+
+def equation_args(lines, name):
+    pass
+
+
+def turn(crate_name, fn, path, data):
+    names = Names(data)
+    with open(path, encoding="utf-8") as f:
+        text = f.read()
+    head, decls = blocks(text)
+    if not any("tie.spec" in "\n".join(d[2]) for d in decls):
+        return None, None, ["no tie.spec"]
+    said = []
+    order = None
+    for d in decls:
+        body = "\n".join(d[2])
+        m = re.search(r"tie\.spec((?:\s+" + W + r")*)", body)
+        if m:
+            order = m.group(1).split()
+    bykey = {}
+    for o, n in names.needs:
+        bykey.setdefault(norm(o), n)
+    invs, answers, helpers = [], [], []
+    loop_of = {norm_step(l[0][0]): (l[0][1], l[1], ch) for l, ch in zip(names.loops, names.changed)}
+    renamed = {}
+    for comments, name, lines in decls:
+        sig = lines[0] + "\n" + "\n".join(lines[1:])
+        if "tie.spec" in sig:
+            continue
+        m = re.match(r"(?:(?:unfoldable|abbrev|pub) )*" + re.escape(name) + r" :\s+tie\.(Need-(" + W + r")|invariant-(" + W + r")|decreases-(" + W + r"))", sig)
+        if not m:
+            helpers.append((comments, name, lines))
+            continue
+        if m.group(2):
+            need = m.group(2)
+            new = bykey.get(norm(need))
+            # where the sig spans lines, drop up to the equation
+            k = 0
+            while k < len(lines) and not re.match(r"(unfolding\b|" + re.escape(name) + r"(\s|$))", lines[k]) or k == 0:
+                k += 1
+                if k >= len(lines):
+                    break
+            rest = lines[k:]
+            if new is None:
+                if not re.search(r"(same.length|shared.slice|slice.write|slice.read)", need):
+                    said.append(f"{fn}: no goal for {need}")
+                continue
+            body = "\n".join(rest)
+            plain = re.sub(r"\s+", " ", body.split("=", 1)[1] if "=" in body else body).strip()
+            if plain in ("search rules", "tt"):
+                continue
+            answers.append((comments, name, new, rest))
+            renamed[name] = new
+        else:
+            loop = m.group(3) or m.group(4)
+            invs.append((comments, name, loop, "invariant" if m.group(3) else "decreases", lines[1:]))
+    inv_out, inv_helpers = [], set()
+    for comments, name, loop, kind, rest in invs:
+        got = loop_of.get(norm_step(loop))
+        if not got:
+            said.append(f"{fn}: no loop {loop}")
+            continue
+        new, vars_, changed = got
+        body = "\n".join(rest)
+        m = re.match(r"((?:unfolding[^\n]*\n)?)" + re.escape(name) + r"((?:\s+" + W + r")*)\s*=\s*(.*)$", body, re.S)
+        if not m:
+            said.append(f"{fn}: invariant {name} not read")
+            continue
+        params = m.group(2).split()
+        expect = [(v, "initial" if c else "plain") for v, c in zip(vars_, changed)] + [(v, "now") for v, c in zip(vars_, changed) if c]
+        if len(params) != len(expect):
+            said.append(f"{fn}: {name}: {len(params)} parameters, {len(expect)} expected ({vars_})")
+        t = m.group(3)
+        table = {}
+        for p, (v, k) in zip(params, expect):
+            table[p] = f"l.initial.{v}" if k == "initial" else f"l.{v}"
+        # binders of the body that hide a parameter are left to the eye
+        def sub(mm):
+            w = mm.group(0)
+            return table.get(w, w)
+        if "l" in re.findall(r"(?<![\w.'-])l(?![\w'-])", t):
+            t = re.sub(r"(?<![\w.'-])l(?![\w'-])", "l'", t)
+            if "l" in table:
+                table["l'"] = table.pop("l")
+        t = re.sub(r"(?<![\w.'₀-])[^\s(){}.;,@\"«»\[\]\\|]+", sub, t)
+        t = turned_text(t, names)
+        inv_out.append(comments + [f"abbrev pub {kind}-{new} : goal.{kind}-{new}"] + ([m.group(1).strip()] if m.group(1) else []) + [f"{kind}-{new} l = {t}"])
+    ans_out = []
+    inv_text = "\n\n".join("\n".join(x) for x in inv_out)
+    for comments, name, lines in helpers:
+        t = turned_text("\n".join(lines), names)
+        ans_out.append((name, comments, t, True))
+    for comments, name, new, rest in answers:
+        t = "\n".join(rest)
+        t = re.sub(r"(?m)^" + re.escape(name) + r" c κs(?=[\s=])", new + " c", t)
+        t = re.sub(r"(?m)^" + re.escape(name) + r"(?=[\s=])", new, t)
+        t = turned_text(t, names)
+        ans_out.append((new, comments, f"pub {new} : goal.{new}\n{t}", False))
+    # helpers that invariants use stand there
+    moved = True
+    in_inv = []
+    text_needed = inv_text
+    while moved:
+        moved = False
+        for x in ans_out:
+            if x[3] and x not in in_inv and re.search(r"(?<![\w.'-])" + re.escape(x[0]) + r"(?![\w'-])", text_needed):
+                in_inv.append(x)
+                text_needed += "\n" + x[2]
+                moved = True
+    in_inv.sort(key=lambda x: ans_out.index(x))
+    rest_ans = [x for x in ans_out if x not in in_inv]
+    # helpers that nothing uses go
+    text_ans = "\n".join(x[2] for x in rest_ans if not x[3])
+    keep = True
+    kept = []
+    grown = text_ans
+    while keep:
+        keep = False
+        for x in rest_ans:
+            if x[3] and x not in kept and re.search(r"(?<![\w.'-])" + re.escape(x[0]) + r"(?![\w'-])", grown):
+                kept.append(x)
+                grown += "\n" + x[2]
+                keep = True
+    dropped = [x[0] for x in rest_ans if x[3] and x not in kept]
+    if dropped:
+        said.append(f"{fn}: helpers dropped: {dropped}")
+    rest_ans = [x for x in rest_ans if not x[3] or x in kept]
+    comment = [l for l in head if l.startswith("--")]
+    mod = f"Rattle.{crate_name}.proofs." + fn.replace("/", ".")
+    inv_file = ans_file = None
+    if inv_out:
+        parts = []
+        for x in in_inv:
+            t = x[2]
+            if not re.match(r"(?:unfoldable |abbrev )?pub ", t):
+                t = re.sub(r"^((?:unfoldable |abbrev )?)", r"\1pub ", t, count=1)
+            parts.append("\n".join(x[1] + [t]))
+        whole = "\n\n".join(parts + [inv_text])
+        use = imports(head, whole)
+        inv_file = "\n".join(comment + use + [f"use {mod}.Given as goal"]) + "\n\n" + whole + "\n"
+    if rest_ans:
+        whole = "\n\n".join("\n".join(x[1] + [x[2]]) for x in rest_ans)
+        use = imports(head, whole)
+        shared = [x[0] for x in in_inv if re.search(r"(?<![\w.'-])" + re.escape(x[0]) + r"(?![\w'-])", whole)]
+        if shared:
+            use.append(f"use {mod}.Invariants.{{{', '.join(shared)}}}")
+        lts = lts_names(whole, names)
+        ans_file = "\n".join(comment + use + [f"use {mod}.Goals as goal"]) + "\n\n" + whole + "\n"
+    return inv_file, ans_file, said
+
+
+def lts_names(whole, names):
+    return []
+
+
+def main(argv):
+    with open(argv[0], encoding="utf-8") as f:
+        listed = json.load(f)
+    crate = argv[1].rstrip("/")
+    only = argv[2:]
+    name = os.path.basename(os.path.abspath(crate))
+    count = 0
+    by = {}
+    for module, data in listed.items():
+        if ".Lts" not in module:
+            continue
+        fn = module.split("-proofs.", 1)[1].rsplit(".Lts", 1)[0].replace(".", "/").replace("«", "").replace("»", "")
+        by[fn] = data
+    for root, _, files in sorted(os.walk(os.path.join(crate, "proofs"))):
+        if "Proof.antt" not in files:
+            continue
+        fn = os.path.relpath(root, os.path.join(crate, "proofs"))
+        if only and fn not in only:
+            continue
+        data = by.get(fn)
+        if data is None:
+            print(f"{fn}: not in the list of names")
+            continue
+        path = os.path.join(root, "Proof.antt")
+        inv, ans, said = turn(name, fn, path, data)
+        for s in said:
+            print(s)
+        if said == ["no tie.spec"]:
+            continue
+        os.remove(path)
+        if inv:
+            with open(os.path.join(root, "Invariants.antt"), "w", encoding="utf-8") as f:
+                f.write(inv)
+        if ans:
+            with open(os.path.join(root, "Answers.antt"), "w", encoding="utf-8") as f:
+                f.write(ans)
+        count += 1
+    print(f"{count} files turned")
+
+
+if __name__ == "__main__":
+    main(sys.argv[1:])
