@@ -5,7 +5,7 @@ ghost use Rattle.wav.specs.Sample.{Power, part_of, pcm_of, pcm8_of, mu_of, a_of,
 use numeric::convert::narrow;
 
 // How samples are written.
-#[derive(Drop)]
+#[derive(Clone, Copy)]
 pub enum Encoding {
     MuLaw,
     ALaw,

@@ -9,7 +9,7 @@ use crate::words::{Known, encoding_of, endless, last_four, shifted_in};
 use refusal::rate_ok;
 
 // Why a recording is not read, or not to its end.
-#[derive(Drop)]
+#[derive(Clone, Copy)]
 pub enum Fault {
     // The first word is not RIFF.
     Riff,
@@ -35,7 +35,7 @@ pub enum Fault {
 }
 
 // What the next bytes are.
-#[derive(Drop)]
+#[derive(Clone, Copy)]
 pub enum Place {
     Riff,
     Length,
@@ -63,7 +63,7 @@ pub enum Place {
 }
 
 // A reader: where it stands in the recording, and what it has read of the format.
-#[derive(Drop)]
+#[derive(Clone, Copy)]
 pub struct Wav {
     place: Place,
     // How many bytes of it are to come.
