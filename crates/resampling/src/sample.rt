@@ -11,7 +11,7 @@ use crate::filter::{fir_push, fir_sums, ring_next};
 use crate::hermite::hermite;
 
 // What a resampler changes from sample to sample, but for the filter's history.
-#[derive(Drop)]
+#[derive(Clone, Copy)]
 pub struct Moving {
     pub fir_pos: usize,
     pub herm_hist: [f64; 4],

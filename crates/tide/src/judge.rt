@@ -10,14 +10,14 @@ use crate::frame::{age_of, level_bits, level_of, stamp_of, station_of};
 use hexadecimal::{Digits, byte, sum, test_digits};
 
 // The water minute, and the level in centimetres.
-#[derive(Drop)]
+#[derive(Clone, Copy)]
 pub struct Reading {
     pub water: u32,
     pub level: i16,
 }
 
 // What a board shows: nothing yet, or a reading.
-#[derive(Drop)]
+#[derive(Clone, Copy)]
 pub enum Shown {
     None,
     Shows(Reading),

@@ -1,0 +1,18 @@
+-- `feed::interpolate_all` meets its contract. The invariant: from the samples so far, once they pass the filter, the rest of the input does what the whole does from the start. Assumes nothing.
+use Prim.Native.Nat.{ℕ, ◌-◌, ◌≤◌}
+use mathlib.Core.Path.{◌≡◌}
+use mathlib.Core.Bool.{false}
+use mathlib.Core.List.{List}
+use lib.ListN.{length, take, drop}
+use lib.Ieee.{Float}
+use Rattle.resampling.specs.FlowRep.{flow_of, filter_in, run, fed_into, through_filter}
+use Rattle.resampling.specs.FilterRep.{history_of}
+use Rattle.resampling.proofs.feed.interpolate_all.Given as goal
+
+abbrev pub invariant-loop-i : goal.invariant-loop-i
+invariant-loop-i l = ((n : ℕ) → (taps ring : List Float) → fed_into (filter_in n taps false l.step) (drop l.i l.input) (through_filter (take n taps) (history_of n l.initial.moving-1.fir_pos ring) (run (flow_of n ring l.moving-1) l.output-1 l.at))
+    ≡ fed_into (filter_in n taps false l.step) l.input (run (flow_of n ring l.initial.moving-1) l.initial.output-1 0))
+    × (length l.output-1 ≡ length l.initial.output-1) × (l.at ≤ length l.output-1)
+
+abbrev pub decreases-loop-i : goal.decreases-loop-i
+decreases-loop-i l = length l.input - l.i
