@@ -75,7 +75,8 @@ class Names:
                     self.told.setdefault(".".join([norm_step(step)] + path), arm[0] + "." + new)
 
     def step(self, old):
-        got = self.steps.get(norm_step(old))
+        # A script took some steps for lemmas of that name.
+        got = self.steps.get(norm_step(old)) or old.endswith("_lem") and self.steps.get(norm_step(old[: -len("_lem")]))
         if not got:
             return None
         return got[0]
@@ -89,34 +90,27 @@ def turned_text(text, names):
     text = re.sub(r"(?:\.before)+(?![\w'-])", "", text)
     text = re.sub(r"\.(well|type)-(formed|inv)(?![\w'-])", r".\1_\2", text)
 
-    def told(m):
-        parts = m.group(0)[1:].split(".")
+    # The steps stand behind `c`, or behind a name that a `let` gave it.
+    heads = {"c"}
+    for _ in range(5):
+        heads |= set(re.findall(r"\blet ([\w']+) = (?:" + "|".join(map(re.escape, heads)) + r") in\b", text))
+    at = r"(?<![\w'.-])(" + "|".join(re.escape(h) for h in sorted(heads)) + r")((?:\.[^\s(){}.;,@\"«»\[\]\\|]+)+)"
+
+    def path(m):
+        parts = m.group(2)[1:].split(".")
         for n in range(len(parts), 1, -1):
             key = ".".join([norm_step(parts[0])] + parts[1:n])
             if key in names.told:
-                return "." + ".".join([names.told[key]] + parts[n:])
-        return m.group(0)
-    text = re.sub(r"\.enum[_-]told[\w'-]*(?:\.[\w'-]+)*", told, text)
-
-    def step(m):
-        old, field = m.group(1), m.group(2)
-        new = names.step(old)
+                return ".".join([m.group(1), names.told[key]] + parts[n:])
+        new = names.step(parts[0])
         if new is None:
             return m.group(0)
-        fields = names.fields.get(norm_step(old), {})
-        if field:
-            return "." + new + "." + fields.get(field, field)
-        return "." + new
-    text = re.sub(r"\.(" + W + r")(?:\.(" + W + r"))?", lambda m: step(m) if names.step(m.group(1)) else one_by_one(m, names), text)
+        fields = names.fields.get(norm_step(parts[0]), {})
+        fields = fields or names.fields.get(norm_step(parts[0][: -len("_lem")]), {})
+        rest = [fields.get(parts[1], parts[1])] + parts[2:] if len(parts) > 1 else []
+        return ".".join([m.group(1), new] + rest)
+    text = re.sub(at, path, text)
     return text
-
-
-def one_by_one(m, names):
-    # the first is no step: the second may be one
-    second = m.group(2)
-    if second and names.step(second):
-        return "." + m.group(1) + "." + names.step(second)
-    return m.group(0)
 
 
 def used(names, text):

@@ -131,12 +131,12 @@ best_none gs (shows r) b =
 pub shown-append : (mine : ℕ) (r : Shown) (k l : List Line) → shown_on mine r (k ++ l) ≡ shown_on mine (shown_on mine r k) l
 unfolding shown_on
 shown-append mine r [] l = refl
-shown-append mine r (x ∷ k) l = shown-append mine _ k l
+shown-append mine r (x ∷ k) l = shown-append mine (judge mine r x.chars x.more).reading k l
 
 pub answers-append : (mine : ℕ) (r : Shown) (k l : List Line) → answers_on mine r (k ++ l) ≡ answers_on mine r k ++ answers_on mine (shown_on mine r k) l
 unfolding shown_on answers_on
 answers-append mine r [] l = refl
-answers-append mine r (x ∷ k) l = ap (λ (vs : List ℕ). (judge mine r x.chars x.more).answer ∷ vs) (answers-append mine _ k l)
+answers-append mine r (x ∷ k) l = ap (λ (vs : List ℕ). (judge mine r x.chars x.more).answer ∷ vs) (answers-append mine (judge mine r x.chars x.more).reading k l)
 
 along-none : (mine : ℕ) (r : Shown) → Along mine r [] [] r
 unfolding shown_on answers_on
@@ -168,7 +168,7 @@ along-heard (h ∷ hs) d =
 length-answers : (mine : ℕ) (r : Shown) (ls : List Line) → length (answers_on mine r ls) ≡ length ls
 unfolding answers_on
 length-answers mine r [] = refl
-length-answers mine r (l ∷ ls) = ap suc (length-answers mine _ ls)
+length-answers mine r (l ∷ ls) = ap suc (length-answers mine (judge mine r l.chars l.more).reading ls)
 
 -- a line at its place among them: its answer, and what stands after it
 pub at_place : (mine : ℕ) (r : Shown) (ls rs : List Line) (l : Line)

@@ -5,8 +5,6 @@ use mathlib.Core.Bool.{true}
 use mathlib.Core.List.{List, [], ◌∷◌}
 use native.Mathlib.Nat.{mul-le-mul_left}
 use native.Mathlib.Omega.{arith}
-use denote.Enum.Declared.{tag_of}
-use types.Run.{OneOf, miss}
 use lib.Dec.{eqb}
 use borrow.Author.Tests.{eq-eqb}
 use Rattle.wav.specs.Sample.{bytes_in}
@@ -17,9 +15,9 @@ use Rattle.wav.specs.declared.sample.Encoding.TheVariants as coding
 use Rattle.wav.specs.declared.words.Known.{Known}
 use Rattle.wav.specs.declared.wav.Wav.{Wav}
 use Rattle.wav.specs.declared.wav.Step.{Step}
+use Rattle.wav.specs.declared.wav.Fault.{Fault}
 use Rattle.wav.specs.declared.wav.Fault.TheVariants as fault
 use Rattle.wav.specs.declared.wav.Place.{Place}
-use Rattle.wav.specs.contracts.wav.Place.{the_type}
 use Rattle.wav.specs.declared.wav.Place.TheVariants as at
 use Rattle.wav.specs.declared.wav.End.{End}
 use Rattle.wav.specs.declared.wav.End.TheVariants as end
@@ -30,30 +28,27 @@ done_at w n word e h = rw e h
 pub ends_at : {p q : Place} (w : Wav) {r : End} → p ≡ q → r ≡ finish_at q w → r ≡ finish_at p w
 ends_at w e h = rw e h
 
--- the places of a header are the first fourteen
-abbrev header : List ℕ
-header = 0 ∷ 1 ∷ 2 ∷ 3 ∷ 4 ∷ 5 ∷ 6 ∷ 7 ∷ 8 ∷ 9 ∷ 10 ∷ 11 ∷ 12 ∷ 13 ∷ []
-
-pub in-header : (p : Place) (w : Wav) → OneOf header (tag_of the_type p)
+-- the places of a header are all others
+pub in-header : (p : Place) (w : Wav) → (p ≡ at.Sample → ⊥) → (p ≡ at.Rest → ⊥) → (p ≡ at.Over → ⊥) → ((f : Fault) → p ≡ at.Bad f → ⊥)
     → end.Bad fault.HeaderCut ≡ finish_at p w
-in-header at.Riff w h = refl
-in-header at.Length w h = refl
-in-header at.Wave w h = refl
-in-header at.Name w h = refl
-in-header at.FormatSize w h = refl
-in-header at.DataSize w h = refl
-in-header at.OtherSize w h = refl
-in-header at.Format w h = refl
-in-header at.Rate w h = refl
-in-header at.Flow w h = refl
-in-header at.Align w h = refl
-in-header at.Extra w h = refl
-in-header at.Sub w h = refl
-in-header at.Skip w h = refl
-in-header at.Sample w h = absurd (miss header 14 tt h)
-in-header at.Rest w h = absurd (miss header 15 tt h)
-in-header at.Over w h = absurd (miss header 16 tt h)
-in-header (at.Bad f) w h = absurd (miss header 17 tt h)
+in-header at.Riff w s r o b = refl
+in-header at.Length w s r o b = refl
+in-header at.Wave w s r o b = refl
+in-header at.Name w s r o b = refl
+in-header at.FormatSize w s r o b = refl
+in-header at.DataSize w s r o b = refl
+in-header at.OtherSize w s r o b = refl
+in-header at.Format w s r o b = refl
+in-header at.Rate w s r o b = refl
+in-header at.Flow w s r o b = refl
+in-header at.Align w s r o b = refl
+in-header at.Extra w s r o b = refl
+in-header at.Sub w s r o b = refl
+in-header at.Skip w s r o b = refl
+in-header at.Sample w s r o b = absurd (s refl)
+in-header at.Rest w s r o b = absurd (r refl)
+in-header at.Over w s r o b = absurd (o refl)
+in-header (at.Bad f) w s r o b = absurd (b f refl)
 
 -- what the encoding decides
 pub settles-at : (w : Wav) (tag : ℕ) {k q : Known} {r : Step} → k ≡ encoding_of tag (w.shape / 65536) → k ≡ q → r ≡ settle_known q w → r ≡ settle w tag

@@ -31,7 +31,7 @@ loop-i-preserved c =
     let h = c.loop-i-test.true in
     let k : length (take a.n a.taps.now) ≡ a.n = length-take-le a.n a.taps.now (omega arith) in (
       omega arith,
-      rw (← get_or-take a.n a.taps.now l.i nan h) (sym (fold_step ◌⊕◌ l.sum-1 (take a.n a.taps.now) l.i nan (omega arith)) ∙ l.invariant.1),
+      rw (← get_or-take a.n a.taps.now l.i nan h) (sym (fold_step ◌⊕◌ l.sum (take a.n a.taps.now) l.i nan (omega arith)) ∙ l.invariant.1),
     )
 
 pub returns : goal.returns
@@ -40,4 +40,4 @@ returns c =
     let a = c.args in
     let p = c.requires in
     let k : length (take a.n a.taps.now) ≡ a.n = length-take-le a.n a.taps.now (omega arith) in
-    sym (fold_end ◌⊕◌ l.sum-1 (take a.n a.taps.now) l.i (omega arith)) ∙ l.invariant.1
+    sym (fold_end ◌⊕◌ l.sum (take a.n a.taps.now) l.i (omega arith)) ∙ l.invariant.1

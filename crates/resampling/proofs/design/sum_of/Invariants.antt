@@ -8,7 +8,7 @@ use Rattle.resampling.specs.Design.{total}
 use Rattle.resampling.proofs.design.sum_of.Given as goal
 
 abbrev pub invariant-loop-i : goal.invariant-loop-i
-invariant-loop-i l = (l.i ≤ l.n) × (fold ◌⊕◌ l.sum-1 (drop l.i (take l.n l.taps)) ≡ total (take l.n l.taps))
+invariant-loop-i l = (l.i ≤ l.n) × (fold ◌⊕◌ l.sum (drop l.i (take l.n l.taps)) ≡ total (take l.n l.taps))
 
 abbrev pub decreases-loop-i : goal.decreases-loop-i
 decreases-loop-i l = l.n - l.i

@@ -9,8 +9,8 @@ use Rattle.resampling.specs.FlowRep.{flow_of, filter_in, run, drained_into}
 use Rattle.resampling.proofs.feed.drain.Given as goal
 
 abbrev pub invariant-loop-moving : goal.invariant-loop-moving
-invariant-loop-moving l = ((n : ℕ) → (taps ring : List Float) → drained_into (filter_in n taps true l.step) (run (flow_of n ring l.moving-1) l.output l.at) ≡ drained_into (filter_in n taps true l.step) (run (flow_of n ring l.initial.moving-1) l.initial.output l.from))
-    × (l.moving-1.fir_pos ≡ l.initial.moving-1.fir_pos) × (length l.output ≡ length l.initial.output)
+invariant-loop-moving l = ((n : ℕ) → (taps ring : List Float) → drained_into (filter_in n taps true l.step) (run (flow_of n ring l.moving) l.output l.at) ≡ drained_into (filter_in n taps true l.step) (run (flow_of n ring l.initial.moving) l.initial.output l.from))
+    × (l.moving.fir_pos ≡ l.initial.moving.fir_pos) × (length l.output ≡ length l.initial.output)
 
 abbrev pub decreases-loop-moving : goal.decreases-loop-moving
 decreases-loop-moving l = length l.initial.output - l.at

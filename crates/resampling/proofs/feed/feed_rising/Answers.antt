@@ -12,4 +12,4 @@ returns c =
     let s = c.args in
     let a = c.filter_all-next.ensures in
     let d = c.interpolate_all-d in
-    (filtered-run d.result.moving-1 _ d.result.at a ∙ d.ensures.0 s.n s.taps.now s.hist.now, a.placed)
+    (filtered-run d.result.moving _ d.result.at a ∙ d.ensures.0 s.n s.taps.now s.hist.now, a.placed)

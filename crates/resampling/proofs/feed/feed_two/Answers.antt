@@ -28,7 +28,7 @@ returns c =
     let k = c.push_known-q.ensures in
     let u = c.drain.ensures in
     let e = drained-from _ _ _ _ _ _ _ (p.0 s.args.step) (d.ensures.0 _ _ _) in
-    let g = k.0 ∙ pushed-known _ _ _ d.result.moving-1 _ _ _ _ d.ensures.1 p.1.1 in (
+    let g = k.0 ∙ pushed-known _ _ _ d.result.moving _ _ _ _ d.ensures.1 p.1.1 in (
       both-taken _ _ _ _ _ _ _ e _ c.if-moving.false (drained-from _ _ _ _ _ _ _ g (u.0 _ _ _)),
       record { within = rw u.1 k.1.0; high = p.1.0.high; taps_long = p.1.0.taps_long; ring_long = k.1.1 },
     )

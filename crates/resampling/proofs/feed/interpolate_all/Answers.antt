@@ -24,7 +24,7 @@ returns-then-moving c =
     let d = c.drain-d.ensures in
     let t = c.loop-i-test.true in (
       λ n taps ring.
-          let e = interpolated-turn (take n taps) _ _ _ _ _ l.invariant.2 _ _ (flow_of n ring l.moving-1) _ (s.0 n ring) (d.0 n taps ring) in
+          let e = interpolated-turn (take n taps) _ _ _ _ _ l.invariant.2 _ _ (flow_of n ring l.moving) _ (s.0 n ring) (d.0 n taps ring) in
           sym (fed-halt _ _ _ _ _ _ _ t (drained-from _ _ _ _ _ _ _ refl e) c.if-moving.true) ∙ l.invariant.0 n taps ring,
       drain-within _ _ _ _ _ (d.0 0 [] []) l.invariant.2,
     )
@@ -37,7 +37,7 @@ loop-i-preserved c =
     let d = c.drain-d.ensures in
     let t = c.loop-i-test.true in (
       λ n taps ring.
-          let e = interpolated-turn (take n taps) _ _ _ _ _ l.invariant.2 _ _ (flow_of n ring l.moving-1) _ (s.0 n ring) (d.0 n taps ring) in
+          let e = interpolated-turn (take n taps) _ _ _ _ _ l.invariant.2 _ _ (flow_of n ring l.moving) _ (s.0 n ring) (d.0 n taps ring) in
           sym (fed-turn _ _ _ _ _ _ _ t (drained-from _ _ _ _ _ _ _ refl e) c.if-moving.false) ∙ l.invariant.0 n taps ring,
       search rules,
       drain-within _ _ _ _ _ (d.0 0 [] []) l.invariant.2,

@@ -10,9 +10,9 @@ use Rattle.resampling.specs.FilterRep.{history_of}
 use Rattle.resampling.proofs.feed.interpolate_all.Given as goal
 
 abbrev pub invariant-loop-i : goal.invariant-loop-i
-invariant-loop-i l = ((n : ℕ) → (taps ring : List Float) → fed_into (filter_in n taps false l.step) (drop l.i l.input) (through_filter (take n taps) (history_of n l.initial.moving-1.fir_pos ring) (run (flow_of n ring l.moving-1) l.output-1 l.at))
-    ≡ fed_into (filter_in n taps false l.step) l.input (run (flow_of n ring l.initial.moving-1) l.initial.output-1 0))
-    × (length l.output-1 ≡ length l.initial.output-1) × (l.at ≤ length l.output-1)
+invariant-loop-i l = ((n : ℕ) → (taps ring : List Float) → fed_into (filter_in n taps false l.step) (drop l.i l.input) (through_filter (take n taps) (history_of n l.initial.moving.fir_pos ring) (run (flow_of n ring l.moving) l.output l.at))
+    ≡ fed_into (filter_in n taps false l.step) l.input (run (flow_of n ring l.initial.moving) l.initial.output 0))
+    × (length l.output ≡ length l.initial.output) × (l.at ≤ length l.output)
 
 abbrev pub decreases-loop-i : goal.decreases-loop-i
 decreases-loop-i l = length l.input - l.i

@@ -7,7 +7,7 @@ use Rattle.resampling.specs.Filter.{sum_from, filtered}
 use Rattle.resampling.proofs.filter.fir_sum.Given as goal
 
 abbrev pub invariant-loop-i : goal.invariant-loop-i
-invariant-loop-i l = (sum_from l.acc-1 (drop l.i (take l.n l.taps)) (walk (l.n - l.i) l.n l.idx l.hist) ≡ filtered (take l.n l.taps) (walk l.n l.n l.pos l.hist)) × (l.idx < l.n) × (l.i ≤ l.n)
+invariant-loop-i l = (sum_from l.acc (drop l.i (take l.n l.taps)) (walk (l.n - l.i) l.n l.idx l.hist) ≡ filtered (take l.n l.taps) (walk l.n l.n l.pos l.hist)) × (l.idx < l.n) × (l.i ≤ l.n)
 
 abbrev pub decreases-loop-i : goal.decreases-loop-i
 decreases-loop-i l = l.n - l.i

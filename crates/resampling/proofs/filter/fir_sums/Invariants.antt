@@ -7,8 +7,8 @@ use Rattle.resampling.specs.Filter.{sum_from, filtered, newest}
 use Rattle.resampling.proofs.filter.fir_sums.Given as goal
 
 abbrev pub invariant-loop-i : goal.invariant-loop-i
-invariant-loop-i l = (sum_from l.first-1 (drop l.i (take l.n l.taps)) (walk (l.n - l.i) l.n l.idx l.hist) ≡ filtered (take l.n l.taps) (walk l.n l.n l.pos l.hist))
-    × (sum_from l.second-1 (drop (l.i + 1) (take l.n l.taps)) (walk (l.n - (l.i + 1)) l.n l.idx l.hist) ≡ filtered (take l.n l.taps) (newest l.later (walk l.n l.n l.pos l.hist)))
+invariant-loop-i l = (sum_from l.first (drop l.i (take l.n l.taps)) (walk (l.n - l.i) l.n l.idx l.hist) ≡ filtered (take l.n l.taps) (walk l.n l.n l.pos l.hist))
+    × (sum_from l.second (drop (l.i + 1) (take l.n l.taps)) (walk (l.n - (l.i + 1)) l.n l.idx l.hist) ≡ filtered (take l.n l.taps) (newest l.later (walk l.n l.n l.pos l.hist)))
     × (l.idx < l.n) × (l.i + 1 ≤ l.n)
 
 abbrev pub decreases-loop-i : goal.decreases-loop-i

@@ -9,4 +9,4 @@ returns-in-None c = rw c.in-None.is refl
 
 pub returns-in-Shows : goal.returns-in-Shows
 unfolding later
-returns-in-Shows c = rw c.r-1.given.1 refl
+returns-in-Shows c = rw c.in-Shows.is refl

@@ -26,5 +26,5 @@ returns c =
     let r = c.run-p.ensures in
     let l = c in
     let b = l in
-    let t = b.all_in_range in
-    (went _ _ _ b.if-count-gt2048.false t.result t.ensures b.if-not-all_in_range.false-raw _ l.output_len-need.ensures _ l.if-output-need.false r.0, r.1)
+    let t = b.all-in-range in
+    (went _ _ _ b.if1.false t.result t.ensures b.if2.false _ l.output_len-need.ensures _ l.if-output-need.false r.0, r.1)

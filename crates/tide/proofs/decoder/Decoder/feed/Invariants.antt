@@ -5,7 +5,7 @@ use Rattle.tide.proofs.Moves.{Going}
 use Rattle.tide.proofs.decoder.Decoder.feed.Given as goal
 
 abbrev pub invariant-loop-i : goal.invariant-loop-i
-invariant-loop-i l = (l.i ≤ length l.codes) × Going l.initial.f.decoder l.codes l.initial.verdicts-1 l.i l.f l.verdicts-1
+invariant-loop-i l = (l.i ≤ length l.codes) × Going l.initial.f.decoder l.codes l.initial.verdicts l.i l.f l.verdicts
 
 abbrev pub decreases-loop-i : goal.decreases-loop-i
 decreases-loop-i l = length l.codes - l.i

@@ -7,7 +7,7 @@ use Rattle.tide.proofs.decoder.Decoder.take.Goals as goal
 pub returns-in-Byte : goal.returns-in-Byte
 returns-in-Byte c =
     let b = c.args.self.skipping in
-    by_move _ _ _ _ (ap (λ h. move_of h b) (sym c.h-1.given.1)) c.add_byte.ensures
+    by_move _ _ _ _ (ap (λ h. move_of h b) (sym c.in-Byte.is)) c.add_byte.ensures
 
 pub returns-in-BadStop : goal.returns-in-BadStop
 returns-in-BadStop c =

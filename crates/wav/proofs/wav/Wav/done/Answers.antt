@@ -70,3 +70,7 @@ returns-in-Rest c = done_at _ _ _ c.in-Rest.is c.frame_over.ensures
 pub returns-in-Over : goal.returns-in-Over
 unfolding done
 returns-in-Over c = done_at _ _ _ c.in-Over.is c.going-in-Over.ensures
+
+pub returns-in-Bad : goal.returns-in-Bad
+unfolding done
+returns-in-Bad c = done_at _ _ _ c.in-Bad.is c.bad.ensures

@@ -15,3 +15,11 @@ returns-in-Rest c = ends_at _ c.in-Rest.is refl
 pub returns-in-Over : goal.returns-in-Over
 unfolding finish_of
 returns-in-Over c = ends_at _ c.in-Over.is refl
+
+pub returns-in-Bad : goal.returns-in-Bad
+unfolding finish_of
+returns-in-Bad c = ends_at _ c.in-Bad.is refl
+
+pub returns-in_default : goal.returns-in_default
+unfolding finish_of
+returns-in_default c = let h = c.in_default in in-header c.args.self.place c.args.self h.not-Sample h.not-Rest h.not-Over h.not-Bad
