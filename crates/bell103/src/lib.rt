@@ -21,7 +21,7 @@ pub fn samples_per_symbol() -> f64
 }
 
 // Which end of the call this is: it sends on `tones(role)`, and listens on `tones(role.listen())`.
-#[derive(Drop)]
+#[derive(Clone, Copy)]
 pub enum Role {
     // The end that dials.
     Originate,

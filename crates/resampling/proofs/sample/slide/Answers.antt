@@ -1,8 +1,0 @@
--- `sample::slide` meets its contract: the window's three newest and y. Assumes nothing.
-use mathlib.Core.Path.{refl}
-use Rattle.resampling.specs.FlowRep.{flow_of}
-use Rattle.resampling.proofs.sample.slide.Goals as goal
-
-pub returns : goal.returns
-unfolding flow_of
-returns c = (λ n ring. refl, refl)
