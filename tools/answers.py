@@ -55,7 +55,9 @@ def norm(name):
 
 
 class Names:
-    def __init__(self, data):
+    def __init__(self, data, clauses=None, own=None):
+        self.clauses, self.own, self.callees = clauses or {}, own, {}
+        self.renamed = [(a.replace(" ", ""), b.replace(" ", "")) for a, b in data["args"] if " " in a]
         self.needs = data["needs"]
         self.loops = data["loops"]
         self.changed = data["changed"]
@@ -63,6 +65,8 @@ class Names:
         for i, p in enumerate(data["places"]):
             old, parent, (of, nf), callee, fields = p
             self.places[old] = data["places_by_name"][i]
+            if of and callee:
+                self.callees.setdefault(norm_step(of), callee)
             if of:
                 self.steps.setdefault(norm_step(of), []).append(nf)
                 for a, b in fields:
@@ -82,12 +86,54 @@ class Names:
         return got[0]
 
 
+def clauses_of(root):
+    """The names of the clauses of each function that has two or more of a kind, by path and kind."""
+    found = {}
+    for top, _, files in os.walk(os.path.join(root, "crates")):
+        if os.sep + "src" not in top:
+            continue
+        for name in files:
+            if not name.endswith(".rt"):
+                continue
+            path = os.path.join(top, name)
+            parts = os.path.relpath(path, os.path.join(root, "crates")).split(os.sep)
+            crate, inner = parts[0], [p[:-3] if p.endswith(".rt") else p for p in parts[2:]]
+            if inner[-1] in ("lib", "main"):
+                inner = inner[:-1]
+            owner, fn = None, None
+            with open(path, encoding="utf-8") as f:
+                for line in f:
+                    m = re.match(r"impl(?:<[^>]*>)? (?:\w+ for )?(\w+)", line)
+                    if m:
+                        owner = m.group(1)
+                    elif line.startswith("}"):
+                        owner = None
+                    m = re.match(r"( *)(?:pub(?:\([a-z]+\))? )?(?:extern \"C\" )?fn (\w+)", line)
+                    if m:
+                        fn = "::".join([crate] + inner + ([owner] if owner and m.group(1) else []) + [m.group(2)])
+                    m = re.match(r"\s+(requires|ensures)\*? (\w+) \{", line)
+                    if m and fn:
+                        found.setdefault((fn, m.group(1)), []).append(m.group(2))
+    return {k: v for k, v in found.items() if len(v) > 1}
+
+
+def clause_path(labels, rest):
+    """What stands for the right-nested places `rest` of the clauses: the label, and the places left."""
+    for j in range(len(labels)):
+        want = ["1"] * j + (["0"] if j < len(labels) - 1 else [])
+        if rest[: len(want)] == want and (want or len(labels) == 1):
+            return [labels[j]] + rest[len(want):]
+    return None
+
+
 def norm_step(s):
     return s.replace("-", "_")
 
 
 def turned_text(text, names):
     text = re.sub(r"(?:\.before)+(?![\w'-])", "", text)
+    for a, b in names.renamed:
+        text = re.sub(re.escape(a) + r"(?![\w'-])", b, text)
     text = re.sub(r"\.(well|type)-(formed|inv)(?![\w'-])", r".\1_\2", text)
 
     # The steps stand behind `c`, or behind a name that a `let` gave it.
@@ -102,15 +148,108 @@ def turned_text(text, names):
             key = ".".join([norm_step(parts[0])] + parts[1:n])
             if key in names.told:
                 return ".".join([m.group(1), names.told[key]] + parts[n:])
+        if parts[0] in ("requires", "ensures") and names.clauses.get((names.own, parts[0])):
+            said = clause_path(names.clauses[names.own, parts[0]], parts[1:])
+            return ".".join([m.group(1), parts[0]] + said) if said else m.group(0)
         new = names.step(parts[0])
         if new is None:
             return m.group(0)
         fields = names.fields.get(norm_step(parts[0]), {})
+        step = norm_step(parts[0])
+        if step.endswith("_lem") and step not in names.callees:
+            step = step[: -len("_lem")]
+        labels = len(parts) > 2 and names.clauses.get((names.callees.get(step), parts[1]))
+        if labels:
+            said = clause_path(labels, parts[2:])
+            if said:
+                return ".".join([m.group(1), new, parts[1]] + said)
         fields = fields or names.fields.get(norm_step(parts[0][: -len("_lem")]), {})
         rest = [fields.get(parts[1], parts[1])] + parts[2:] if len(parts) > 1 else []
         return ".".join([m.group(1), new] + rest)
+    text = re.sub(r"(?<=\.)[a-z][a-z0-9]*(?:-[a-z0-9]+)+(?![\w'-])", lambda m: RUST.get(m.group(0), m.group(0)) if names.step(m.group(0)) is None else m.group(0), text)
+    # A name that a `let` gave to a call, or to what it ensures.
+    for m in list(re.finditer(r"\blet ([\w']+) = " + at + r" in\b", text)):
+        parts = m.group(3)[1:].split(".")
+        callee = names.callees.get(norm_step(parts[0])) or names.callees.get(norm_step(parts[0][: -len("_lem")]))
+        kind = parts[1] if len(parts) > 1 else None
+        if len(parts) > 2 or kind not in (None, "ensures", "requires"):
+            continue
+        for k in ("ensures", "requires"):
+            labels = names.clauses.get((callee, k))
+            if not labels or kind not in (None, k):
+                continue
+            lead = re.escape(m.group(1)) + ("" if kind else r"\." + k)
+
+            def sub(mm):
+                said = clause_path(labels, mm.group(2)[1:].split("."))
+                return mm.group(1) + "." + ".".join(said) if said else mm.group(0)
+            text = re.sub(r"(?<![\w'.-])(" + lead + r")((?:\.\d+)+(?:\.[\w'-]+)*)", sub, text)
     text = re.sub(at, path, text)
     return text
+
+
+def split_top(text):
+    """The parts of a text that commas divide, outside brackets."""
+    out, depth, at = [], 0, 0
+    for i, ch in enumerate(text):
+        if ch in "([{":
+            depth += 1
+        elif ch in ")]}":
+            depth -= 1
+        elif ch == "," and depth == 0:
+            out.append(text[at:i])
+            at = i + 1
+    last = text[at:]
+    return out + ([last] if last.strip() else [])
+
+
+def labelled(body, labels):
+    """The answer for several clauses: a record of them."""
+    m = re.match(r"(.*?[ \n]=)(\s.*)$", body, re.S)
+    if not m:
+        return body
+    head, rest = m.group(1), m.group(2)
+    at = 0
+    while True:
+        n = re.match(r"\s*let\b", rest[at:])
+        if not n:
+            break
+        depth, i = 0, at + n.end()
+        while i < len(rest):
+            if rest[i] in "([{":
+                depth += 1
+            elif rest[i] in ")]}":
+                depth -= 1
+            elif depth == 0 and re.match(r"\blet\b", rest[i:]) and not re.match(r"\w", rest[i - 1]):
+                depth += 0
+            elif depth == 0 and re.match(r"in\b", rest[i:]) and rest[i - 1] in " \n":
+                break
+            i += 1
+        at = i + 2
+    lets, expr = rest[:at], rest[at:]
+    strip = expr.strip()
+    inner = strip[1:-1] if strip.startswith("(") and strip.endswith(")") else None
+    if inner is not None:
+        depth = 0
+        for i, ch in enumerate(strip):
+            depth += (ch in "([{") - (ch in ")]}")
+            if depth == 0 and i < len(strip) - 1:
+                inner = None
+                break
+    pieces = split_top(inner) if inner is not None else []
+    while 1 < len(pieces) < len(labels) and re.match(r"\(.*\)$", pieces[-1].strip(), re.S):
+        pieces = pieces[:-1] + split_top(pieces[-1].strip()[1:-1])
+    if len(pieces) >= len(labels):
+        k = len(labels)
+        parts = pieces[: k - 1] + ([pieces[k - 1]] if len(pieces) == k else ["(" + ",".join(pieces[k - 1:]) + ")"])
+        values = [p.strip() for p in parts]
+    elif strip == "search rules":
+        return body
+    else:
+        places = [".".join([""] + ["1"] * j + (["0"] if j < len(labels) - 1 else [])) for j in range(len(labels))]
+        lets += f" let all = {strip} in"
+        values = ["all" + p for p in places]
+    return head + lets + " record { " + "; ".join(f"{a} = {b}" for a, b in zip(labels, values)) + " }"
 
 
 def used(names, text):
@@ -118,13 +257,33 @@ def used(names, text):
     keep = []
     for n in names:
         short = n.split(" as ")[-1].strip()
-        if "◌" in short:
+        if short == "[]":
+            keep += [n] if "[]" in text else []
+        elif "◌" in short:
             parts = [p for p in short.split("◌") if p]
             if all(p in words or p in text for p in parts):
                 keep.append(n)
         elif short in words or short.strip("«»") in words:
             keep.append(n)
     return keep
+
+
+def rust_names(crate):
+    """Names of the source with an underscore, which records show as they are, but for those that a record of the repository's own has with a dash."""
+    found, own = set(), set()
+    for top, _, files in os.walk(os.path.join(crate, "src")):
+        for name in files:
+            with open(os.path.join(top, name), encoding="utf-8") as f:
+                found |= set(re.findall(r"\b[a-z][a-z0-9]*(?:_[a-z0-9]+)+\b", re.sub(r"//[^\n]*", "", f.read())))
+    for top, _, files in os.walk(os.path.join(os.path.dirname(os.path.abspath(crate)))):
+        for name in files:
+            if name.endswith(".antt") and "/out" not in top and name not in ("Proof.antt", "Answers.antt"):
+                with open(os.path.join(top, name), encoding="utf-8") as f:
+                    own |= set(re.findall(r"(?m)^ +(?:pub )?([a-z][\w']*(?:-[\w']+)+) :", f.read()))
+    return {n.replace("_", "-"): n for n in found if n.replace("_", "-") not in own}
+
+
+RUST = {}
 
 
 def imports(head, text):
@@ -150,8 +309,9 @@ def equation_args(lines, name):
     pass
 
 
-def turn(crate_name, fn, path, data):
-    names = Names(data)
+def turn(crate_name, fn, path, data, clauses=None):
+    own = "::".join([crate_name] + fn.split("/"))
+    names = Names(data, clauses, own)
     with open(path, encoding="utf-8") as f:
         text = f.read()
     head, decls = blocks(text)
@@ -242,6 +402,9 @@ def turn(crate_name, fn, path, data):
         t = re.sub(r"(?m)^" + re.escape(name) + r" c κs(?=[\s=])", new + " c", t)
         t = re.sub(r"(?m)^" + re.escape(name) + r"(?=[\s=])", new, t)
         t = turned_text(t, names)
+        labels = (clauses or {}).get((own, "ensures"))
+        if labels and new.startswith("returns"):
+            t = labelled(t, labels)
         ans_out.append((new, comments, f"pub {new} : goal.{new}\n{t}", False))
     # helpers that invariants use stand there
     moved = True
@@ -307,6 +470,8 @@ def main(argv):
     only = argv[2:]
     name = os.path.basename(os.path.abspath(crate))
     count = 0
+    RUST.update(rust_names(crate))
+    clauses = clauses_of(os.path.dirname(os.path.dirname(os.path.abspath(crate))))
     by = {}
     for module, data in listed.items():
         if ".Lts" not in module:
@@ -324,7 +489,7 @@ def main(argv):
             print(f"{fn}: not in the list of names")
             continue
         path = os.path.join(root, "Proof.antt")
-        inv, ans, said = turn(name, fn, path, data)
+        inv, ans, said = turn(name, fn, path, data, clauses)
         for s in said:
             print(s)
         if said == ["no tie.spec"]:

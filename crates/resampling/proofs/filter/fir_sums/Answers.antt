@@ -58,3 +58,12 @@ offset_bounds-hist-idx-2 c = omega (arith, c.requires.high, c.loop-i.invariant.2
 
 pub bounds-hist-idx-2 : goal.bounds-hist-idx-2
 bounds-hist-idx-2 c = omega (arith, c.requires.high, c.loop-i.invariant.2)
+
+pub returns : goal.returns
+returns c =
+    let l = c.loop-i in
+    let a = c.args in
+    let p = c.requires in
+    let e = c.loop-i-test.false in
+    let i : l.i < a.n = omega (arith, l.invariant.3) in
+    let fits : a.n ≤ length a.taps.now = omega (arith, p.high, p.taps_long) in record { first_value = sym (sum_done _ _ _ _ (ring_back a.n l.idx) _ fits e) ∙ sym (sum-turn _ _ _ _ _ _ fits i) ∙ l.invariant.0; second_value = sym (sum_done _ _ _ _ _ _ fits e) ∙ l.invariant.1 }

@@ -18,8 +18,8 @@ returns c =
     let f = c.faster_of.ensures.0 in
     let z = c.zeros-fir_hist.ensures in
     let long : length t.result.taps ≡ most_taps = search rules in
-    let are : take t.result.n t.result.taps ≡ taps_of s.args.src-rate s.args.dst-rate = rw (← f) t.ensures.are in (
-      rw z (fresh-is s.args.src-rate s.args.dst-rate t.result.n t.result.taps t.ensures.high long are),
+    let are : take t.result.n t.result.taps ≡ taps_of s.args.src_rate s.args.dst_rate = rw (← f) t.ensures.are in (
+      rw z (fresh-is s.args.src_rate s.args.dst_rate t.result.n t.result.taps t.ensures.high long are),
       record {
         rates = s.requires;
         identity = refl;

@@ -12,6 +12,11 @@ returns-then-identity c = rw (← c.requires.2, c.if-identity.true)
 pub overflow_mul-input_len : goal.overflow_mul-input_len
 overflow_mul-input_len c = omega (arith, mul-le-mul c.requires.1 c.requires.0.dst_high)
 
+pub overflow_add-result : goal.overflow_add-result
+overflow_add-result c =
+    let a = c.args in
+    omega (arith, c.nearest.ensures, mul-le-mul c.requires.1 c.requires.0.dst_high, div-le_self (2 * (a.input_len * a.dst_rate) + a.src_rate) (2 * a.src_rate))
+
 pub returns : goal.returns
 unfolding max_output_len
 returns c = rw (← c.requires.2, c.if-identity.false, c.nearest.ensures)

@@ -9,8 +9,7 @@ use Rattle.resampling.proofs.resample.Resampler.run.Goals as goal
 pub returns-then-self : goal.returns-then-self
 unfolding state_of
 returns-then-self c =
-    let s = c in
-    (copied-into _ _ _ _ _ (sym s.requires.identity ∙ c.if-self.true) c.copy-count.ensures, s.requires)
+    let s = c in record { output_after = copied-into _ _ _ _ _ (sym s.requires.identity ∙ c.if-self.true) c.copy-count.ensures; sound = s.requires }
 
 pub feed-d-requires : goal.feed-d-requires
 feed-d-requires c =
@@ -28,9 +27,7 @@ returns c =
     let s = c in
     let p = s.requires in
     let r = s.args.self in
-    let f = c.feed-d in (
-      ran-into (state_of r) _ _ _ _ (filter-is r p) (sym p.identity ∙ c.if-self.false) f.ensures.0,
-      record {
+    let f = c.feed-d in record { output_after = ran-into (state_of r) _ _ _ _ (filter-is r p) (sym p.identity ∙ c.if-self.false) f.ensures.all_fed; sound = record {
         rates = p.rates;
         identity = p.identity;
         decimating = p.decimating;
@@ -38,7 +35,6 @@ returns c =
         high = p.high;
         taps = p.taps;
         taps_long = p.taps_long;
-        ring_long = f.ensures.1.ring_long;
-        place = λ _. f.ensures.1.within;
-      },
-    )
+        ring_long = f.ensures.placed.ring_long;
+        place = λ _. f.ensures.placed.within;
+      } }
