@@ -42,7 +42,7 @@ impl Role {
 }
 
 // Mark and space frequencies, in hertz.
-#[derive(Drop)]
+#[derive(Clone, Copy)]
 pub struct TonePair {
     pub mark: f64,
     pub space: f64,

@@ -30,7 +30,7 @@ pub struct Deframer {
 }
 
 // What one bit completed: a byte; nothing yet; or a frame whose stop bit is a space, which is no byte.
-#[derive(Drop)]
+#[derive(Clone, Copy)]
 pub enum Heard {
     Byte(u8),
     Waiting,
@@ -38,7 +38,7 @@ pub enum Heard {
 }
 
 // The deframer after a bit, and what the bit completed.
-#[derive(Drop)]
+#[derive(Clone, Copy)]
 pub struct Pushed {
     pub state: Deframer,
     pub heard: Heard,

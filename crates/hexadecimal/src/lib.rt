@@ -25,7 +25,7 @@ pub fn digit(c: u8) -> u8
 }
 
 // What the digit test finds: none that is wrong, or the place of the first that is, counted from 0.
-#[derive(Drop)]
+#[derive(Clone, Copy)]
 pub enum Digits {
     AllDigits,
     WrongAt(usize),

@@ -22,7 +22,7 @@ use refusal::DSP_RATE;
 use resampling::Resampler;
 
 // What moves with each sample: the oscillator, the symbol clock, and where the bits that wait stand in their ring.
-#[derive(Drop)]
+#[derive(Clone, Copy)]
 pub struct Wave {
     pub nco: Nco,
     pub sym_pos: f64,
@@ -318,7 +318,7 @@ fn make(
 }
 
 // What a pass reads of the sender and leaves as it is.
-#[derive(Drop)]
+#[derive(Clone, Copy)]
 pub struct Settings {
     pub rate: u32,
     pub tones: TonePair,

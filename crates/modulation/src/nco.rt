@@ -6,7 +6,7 @@ use numeric::phase::turn;
 use numeric::sine::{TAU, sine};
 
 // A running phase, so that a change of frequency makes no jump.
-#[derive(Drop)]
+#[derive(Clone, Copy)]
 pub struct Nco {
     pub phase: f64,
     pub inc: f64,

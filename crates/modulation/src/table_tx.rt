@@ -15,14 +15,14 @@ use bell103::Role;
 use refusal::{Acceptance, is_accepted};
 
 // How many places the phase moves on after a sample of each tone: a fifth of its hertz.
-#[derive(Drop)]
+#[derive(Clone, Copy)]
 pub struct Hops {
     pub mark: usize,
     pub space: usize,
 }
 
 // What moves with each sample.
-#[derive(Drop)]
+#[derive(Clone, Copy)]
 pub struct Keying {
     // Where the waiting bits stand in their ring.
     pub head: usize,

@@ -11,7 +11,7 @@ pub const DSP_RATE: u32 = 8000;
 pub const HIGHEST_RATE: u32 = 48000;
 
 // Why a call is refused.
-#[derive(Drop)]
+#[derive(Clone, Copy)]
 pub enum Refusal {
     Rate,
     Station,
@@ -60,14 +60,14 @@ impl Refusal {
 }
 
 // What a call answers that gives nothing but its acceptance.
-#[derive(Drop)]
+#[derive(Clone, Copy)]
 pub enum Acceptance {
     Accepted,
     Refused(Refusal),
 }
 
 // What a call answers that gives a count.
-#[derive(Drop)]
+#[derive(Clone, Copy)]
 pub enum Counted {
     Count(usize),
     Refused(Refusal),

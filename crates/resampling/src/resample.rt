@@ -14,7 +14,7 @@ use crate::sample::Moving;
 use numeric::counts::nearest;
 use refusal::{Acceptance, Counted, DSP_RATE, Refusal, rates_ok};
 
-#[derive(Drop)]
+#[derive(Clone, Copy)]
 pub struct Resampler {
     src_rate: u32,
     dst_rate: u32,

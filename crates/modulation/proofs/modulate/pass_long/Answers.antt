@@ -1,0 +1,23 @@
+-- `tx::pass_long` meets its contract: 1,040 places are enough for 1,024 samples and the surplus. Assumes nothing.
+use Rattle.modulation.proofs.Counts.{need-over, surplus}
+use lib.ListN.{length}
+use mathlib.Core.Path.{sym, ◌∙◌}
+use native.Mathlib.Omega.{arith}
+use lib.Seq.{length-take-le}
+use Rattle.modulation.proofs.modulate.pass_long.Goals as goal
+
+pub room_for-room-requires : goal.room_for-room-requires
+room_for-room-requires c =
+    let z = c in
+    (z.requires.2, z.requires.1.high, omega (arith, c.need_for-k.ensures, z.requires.3, need-over z.args.s.rate (length z.args.rest.now) z.requires.1.low))
+
+pub slice_bounds-scratch-end : goal.slice_bounds-scratch-end
+slice_bounds-scratch-end c =
+    let z = c in
+    omega (arith, c.need_for-k.ensures, c.zeros_1040-scratch.ensures, z.requires.3, need-over z.args.s.rate (length z.args.rest.now) z.requires.1.low)
+
+pub slice_bounds-out-end : goal.slice_bounds-out-end
+slice_bounds-out-end c =
+    let z = c in
+    let k = c.room_for-room.ensures in
+    omega (arith, rw c.need_for-k.ensures at k, c.zeros_1040-out.ensures, z.requires.3, surplus z.args.s.rate (length z.args.rest.now) z.requires.1.low z.requires.1.high)

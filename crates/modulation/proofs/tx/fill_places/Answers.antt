@@ -1,0 +1,15 @@
+-- `tx::fill_places` meets its contract: what is pending, then one pass at equal rates. Assumes nothing.
+use Rattle.modulation.proofs.Equal.{places-first, places-both}
+use Rattle.modulation.proofs.Slices.{lent_length, rest-length}
+use Rattle.modulation.specs.TxRep.{parts_for}
+use Prim.Native.Nat.{◌<◌}
+use lib.ListN.{length}
+use mathlib.Core.Path.{◌∙◌}
+use native.Mathlib.Omega.{arith}
+use Rattle.modulation.proofs.tx.fill_places.Goals as goal
+
+pub returns-then-n-written : goal.returns-then-n-written
+returns-then-n-written c =
+    let a = c.args in
+    let h = c.hand_over-written.ensures in
+    places-first (parts_for a.bits.now a.tones a.w a.a a.pending.now a.from a.upto) _ _ _ h h.places c.if-n-written.true
