@@ -57,6 +57,7 @@ def norm(name):
 class Names:
     def __init__(self, data, clauses=None, own=None):
         self.clauses, self.own, self.callees = clauses or {}, own, {}
+        self.params = data["params"]
         self.renamed = [(a.replace(" ", ""), b.replace(" ", "")) for a, b in data["args"] if " " in a]
         self.needs = data["needs"]
         self.loops = data["loops"]
@@ -110,11 +111,25 @@ def clauses_of(root):
                         owner = None
                     m = re.match(r"( *)(?:pub(?:\([a-z]+\))? )?(?:extern \"C\" )?fn (\w+)", line)
                     if m:
-                        fn = "::".join([crate] + inner + ([owner] if owner and m.group(1) else []) + [m.group(2)])
+                        fn = "::".join([crate] + ([owner] if owner and m.group(1) else inner) + [m.group(2)])
                     m = re.match(r"\s+(requires|ensures)\*? (\w+) \{", line)
                     if m and fn:
                         found.setdefault((fn, m.group(1)), []).append(m.group(2))
-    return {k: v for k, v in found.items() if len(v) > 1}
+    return Clauses({k: v for k, v in found.items() if len(v) > 1})
+
+
+class Clauses(dict):
+    """By path and kind; a method's path is that of its type, whatever file it stands in."""
+
+    def get(self, key, default=None):
+        path, kind = key
+        parts = (path or "").split("::")
+        if len(parts) > 2 and parts[-2][:1].isupper():
+            path = "::".join([parts[0]] + parts[-2:])
+        return dict.get(self, (path, kind), default)
+
+    def __getitem__(self, key):
+        return self.get(key)
 
 
 def clause_path(labels, rest):
@@ -142,6 +157,18 @@ def turned_text(text, names):
         heads |= set(re.findall(r"\blet ([\w']+) = (?:" + "|".join(map(re.escape, heads)) + r") in\b", text))
     at = r"(?<![\w'.-])(" + "|".join(re.escape(h) for h in sorted(heads)) + r")((?:\.[^\s(){}.;,@\"«»\[\]\\|]+)+)"
 
+    def known(step, parts):
+        """`new` and `auto` show the parameters by name, where they were places of a tuple."""
+        params = names.params.get(names.callees.get(step))
+        if len(parts) < 2 or parts[0] not in ("new", "auto") or not params:
+            return parts
+        n = 1
+        while n < len(parts) and parts[n] == "1":
+            n += 1
+        if n < len(parts) and parts[n] == "0" and n - 1 < len(params):
+            return [parts[0], params[n - 1]] + parts[n + 1:]
+        return parts
+
     def path(m):
         parts = m.group(2)[1:].split(".")
         for n in range(len(parts), 1, -1):
@@ -158,6 +185,7 @@ def turned_text(text, names):
         step = norm_step(parts[0])
         if step.endswith("_lem") and step not in names.callees:
             step = step[: -len("_lem")]
+        parts = parts[:1] + known(step, parts[1:])
         labels = len(parts) > 2 and names.clauses.get((names.callees.get(step), parts[1]))
         if labels:
             said = clause_path(labels, parts[2:])
@@ -170,7 +198,12 @@ def turned_text(text, names):
     # A name that a `let` gave to a call, or to what it ensures.
     for m in list(re.finditer(r"\blet ([\w']+) = " + at + r" in\b", text)):
         parts = m.group(3)[1:].split(".")
-        callee = names.callees.get(norm_step(parts[0])) or names.callees.get(norm_step(parts[0][: -len("_lem")]))
+        at_step = norm_step(parts[0]) if norm_step(parts[0]) in names.callees else norm_step(parts[0][: -len("_lem")])
+        callee = names.callees.get(at_step)
+        if len(parts) == 1 and callee:
+            def by_name(mm):
+                return mm.group(1) + "." + ".".join(known(at_step, mm.group(2)[1:].split(".")))
+            text = re.sub(r"(?<![\w'.-])(" + re.escape(m.group(1)) + r")((?:\.(?:new|auto))(?:\.\d+)+(?:\.[\w'-]+)*)", by_name, text)
         kind = parts[1] if len(parts) > 1 else None
         if len(parts) > 2 or kind not in (None, "ensures", "requires"):
             continue
@@ -369,7 +402,7 @@ def turn(crate_name, fn, path, data, clauses=None):
             continue
         new, vars_, changed = got
         body = "\n".join(rest)
-        m = re.match(r"((?:unfolding[^\n]*\n)?)" + re.escape(name) + r"((?:\s+" + W + r")*)\s*=\s*(.*)$", body, re.S)
+        m = re.match(r"((?:unfolding[^\n]*\n)?)" + re.escape(name) + r"((?:\s+(?:«\w+»|" + W + r"))*)\s*=\s*(.*)$", body, re.S)
         if not m:
             said.append(f"{fn}: invariant {name} not read")
             continue
@@ -380,6 +413,7 @@ def turn(crate_name, fn, path, data, clauses=None):
         t = m.group(3)
         table = {}
         for p, (v, k) in zip(params, expect):
+            v = f"«{v}»" if p.startswith("«") else v
             table[p] = f"l.initial.{v}" if k == "initial" else f"l.{v}"
         # binders of the body that hide a parameter are left to the eye
         def sub(mm):
@@ -389,7 +423,7 @@ def turn(crate_name, fn, path, data, clauses=None):
             t = re.sub(r"(?<![\w.'-])l(?![\w'-])", "l'", t)
             if "l" in table:
                 table["l'"] = table.pop("l")
-        t = re.sub(r"(?<![\w.'₀-])[^\s(){}.;,@\"«»\[\]\\|]+", sub, t)
+        t = re.sub(r"(?<![\w.'₀-])(?:«\w+»|[^\s(){}.;,@\"«»\[\]\\|]+)", sub, t)
         t = turned_text(t, names)
         inv_out.append(comments + [f"abbrev pub {kind}-{new} : goal.{kind}-{new}"] + ([m.group(1).strip()] if m.group(1) else []) + [f"{kind}-{new} l = {t}"])
     ans_out = []

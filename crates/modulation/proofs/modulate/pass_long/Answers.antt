@@ -21,3 +21,13 @@ slice_bounds-out-end c =
     let z = c in
     let k = c.room_for-room.ensures in
     omega (arith, rw c.need_for-k.ensures at k, c.zeros_1040-out.ensures, z.requires.3, surplus z.args.s.rate (length z.args.rest.now) z.requires.1.low z.requires.1.high)
+
+pub slice_bounds-pass_in-end-2 : goal.slice_bounds-pass_in-end-2
+slice_bounds-pass_in-end-2 c =
+    sym (length-take-le _ _ (omega (arith, rw c.need_for-k.ensures at c.room_for-room.ensures, c.zeros_1040-out.ensures, c.requires.3, surplus c.args.s.rate (length c.args.rest.now) c.requires.1.low c.requires.1.high)))
+
+pub pass_in-requires-clause-scratch_len : goal.pass_in-requires-clause-scratch_len
+pass_in-requires-clause-scratch_len c = (
+  length-take-le _ _ (omega (arith, c.need_for-k.ensures, c.zeros_1040-scratch.ensures, c.requires.3, need-over c.args.s.rate (length c.args.rest.now) c.requires.1.low)) ∙ c.need_for-k.ensures,
+  length-take-le _ _ (omega (arith, rw c.need_for-k.ensures at c.room_for-room.ensures, c.zeros_1040-out.ensures, c.requires.3, surplus c.args.s.rate (length c.args.rest.now) c.requires.1.low c.requires.1.high)) ∙ rw c.need_for-k.ensures at c.room_for-room.ensures,
+)

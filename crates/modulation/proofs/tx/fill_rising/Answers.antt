@@ -38,6 +38,21 @@ loop-written-smaller c =
     let g = c.loop-written.invariant in
     omega (arith, g.within, g.size, g.on.few, c.loop-written-test.true)
 
+pub loop-written-preserved : goal.loop-written-preserved
+loop-written-preserved c =
+    let z = c in
+    let l = c.loop-written in
+    let g = l.invariant in
+    let p = c.pass-p in
+    let L = length c.hand_over-written.new.out in
+    let w : l.written < L = omega (arith, c.loop-written-test.true, g.size) in
+    let n = lent_length l.out l.written L g.size in
+    let k = c.out-in-loop-written-1.given.1 in
+    let rest = p.new.rest in
+    let len : length rest ≡ L - l.written = rest-length l.out rest l.written L g.size g.within (k ∙ g.size) in
+    going-turn z.args.t L l.out l.pending l.wave l.resampler l.upto l.written l.from l.passes rest _ _ _ _ _ _ g w
+    (omega (arith, z.requires.2, c.hand_over-written.ensures.places)) (omega (arith, z.requires.3, c.hand_over-written.ensures.places)) z.requires.1 (rw n at p.ensures) len (k ∙ g.size)
+
 pub with_passes-state-requires : goal.with_passes-state-requires
 with_passes-state-requires c =
     let g = c.loop-written.invariant in
@@ -45,3 +60,11 @@ with_passes-state-requires c =
 
 pub shape_of-out : goal.shape_of-out
 shape_of-out c = c.loop-written.invariant.size ∙ c.hand_over-written.ensures.places
+
+pub returns : goal.returns
+returns c =
+    let z = c in
+    let l = c.loop-written in
+    let g = l.invariant in
+    let e : length c.hand_over-written.new.out ≡ length z.args.out.now = c.hand_over-written.ensures.places in
+    rw (c.with_passes-state.ensures, g.size ∙ e) (rw e at (going_end z.args.t _ l.out l.pending l.wave l.resampler l.upto l.written l.from l.passes z.requires.0 g c.loop-written-test.false (omega (arith, z.requires.3, e))))

@@ -5,5 +5,4 @@ use Rattle.modulation.proofs.tx.Tx.write.Goals as goal
 
 pub returns : goal.returns
 returns c =
-    let z = c in
-    queued-so _ _ (write z.args.«data».now) _ _ z.requires c.ask_frames-asked.ensures c.with_bits-state.ensures
+    let z = c in let all = queued-so _ _ (write z.args.«data».now) _ _ z.requires c.ask_frames-asked.ensures c.with_bits-state.ensures in record { state_value = all.0; tx_sound = all.1 }

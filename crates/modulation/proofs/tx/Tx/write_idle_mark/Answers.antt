@@ -1,0 +1,8 @@
+-- `Tx::write_idle_mark` meets its contract: the queue is as `ask_marks` leaves it. Assumes nothing.
+use Rattle.modulation.specs.Requests.{idle_mark}
+use Rattle.modulation.proofs.QueueingLaws.{queued-so}
+use Rattle.modulation.proofs.tx.Tx.write_idle_mark.Goals as goal
+
+pub returns : goal.returns
+returns c =
+    let z = c in let all = queued-so _ _ (idle_mark z.args.n) _ _ z.requires c.ask_marks-asked.ensures c.with_bits-state.ensures in record { state_value = all.0; tx_sound = all.1 }
