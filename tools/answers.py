@@ -142,7 +142,7 @@ def clause_path(labels, rest):
 
 
 def norm_step(s):
-    return s.replace("-", "_")
+    return s.replace("-", "_").lower()
 
 
 def turned_text(text, names):

@@ -21,14 +21,17 @@ each_map f [] e = tt
 each_map f (r ∷ rs) e = (f r e.0, each_map f rs e.1)
 
 some-map : {P Q : Reading → Type 0} → ((r : Reading) → P r → Q r) → (rs : List Reading) → Some P rs → Some Q rs
+some-map {P = P} {Q = Q} f [] x' = elim x' [ ]
 some-map f (r ∷ rs) (inl p) = inl (f r p)
 some-map f (r ∷ rs) (inr s) = inr (some-map f rs s)
 
 some_out : {P : Reading → Type 0} {Q : Type 0} → ((r : Reading) → P r → Q) → (rs : List Reading) → Some P rs → Q
+some_out {P = P} {Q = Q} f [] x' = elim x' [ ]
 some_out f (r ∷ rs) (inl p) = f r p
 some_out f (r ∷ rs) (inr s) = some_out f rs s
 
 both : (P Q : Reading → Type 0) (rs : List Reading) → Some P rs → Each Q rs → Some (λ (r : Reading). P r × Q r) rs
+both P Q [] x'' e = elim x'' [ ]
 both P Q (r ∷ rs) (inl p) e = inl (p, e.0)
 both P Q (r ∷ rs) (inr s) e = inr (both P Q rs s e.1)
 
@@ -96,6 +99,7 @@ pub record Kept (rs : List Reading) : Type 0 where
   pub are : kept rs ≡ first ∷ others
 
 some_first : (P : Reading → Type 0) (rs ks : List Reading) → kept rs ≡ ks → Some P ks → Kept rs
+some_first P rs [] e s = elim s [ ]
 some_first P rs (k ∷ ks) e s = record { first = k; others = ks; are = e }
 
 pub kept-some : (r : Reading) (rs : List Reading) → Kept (r ∷ rs)

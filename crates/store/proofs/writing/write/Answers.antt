@@ -32,3 +32,15 @@ pub line_of-line-requires : goal.line_of-line-requires
 line_of-line-requires c =
     let e = c in
     rate-fits _ (sym e.rate_ok.ensures ∙ e.if-not-rate_ok.false-raw)
+
+pub returns : goal.returns
+returns c =
+    let p = c in
+    let l = p in
+    let f = l in
+    let d = f in
+    let e = d in
+    let b = e.args.buffer.now in
+    let u = d.unused_from-at.ensures in
+    let r = (room-count b _ _ d.store_len-n.ensures.0 d.store_len-n.ensures.1 u).1 in
+    with-room b _ _ _ (sym e.rate_ok.ensures ∙ e.if-not-rate_ok.false-raw) e.if-station-eq0.false (omega (arith, r, f.if-n-at-lt15.false)) _ _ _ u l.line_of-line.ensures p.put_line.ensures
