@@ -1,6 +1,6 @@
 -- Until an error leaves -1 to 1, a board's demodulator and the bare one slice the same bits; until then, and until the carrier is lost, they hear the
 -- same. Assumes nothing.
-use Prim.Native.Nat.{ℕ, ◌+◌}
+use Prim.Native.Nat.{◌+◌}
 use mathlib.Core.Path.{◌≡◌, refl, sym, ap, ◌∙◌}
 use mathlib.Core.Bool.{Bool, true, false}
 use mathlib.Core.List.{List, [], ◌∷◌, ◌++◌}

@@ -15,7 +15,7 @@ use Rattle.demodulation.specs.Pace.{numbered, boundaries, Paced}
 use Rattle.demodulation.proofs.PaceLaws.{paced-tight, paced-wider}
 use Rattle.demodulation.specs.Demod.{Demodulator, Step, fed, finished, step_of, fresh_demodulator, hearing, bits_at}
 use Rattle.demodulation.proofs.DemodLaws.{step_waits, step-decodes, corr-after, step-kind}
-use Rattle.demodulation.proofs.FreshLaws.{stays_open, next_place, fills, stays-filled}
+use Rattle.demodulation.proofs.FreshLaws.{stays_open, next_place_lem, fills, stays-filled}
 use Rattle.demodulation.specs.Symbols.{soft_of, ends_symbol, symbol_ends}
 use Rattle.bell103.specs.declared.Role.{Role}
 use Rattle.demodulation.specs.declared.kind.Kind.{Kind}
@@ -94,7 +94,7 @@ module _ (kind : Kind) (n : ℕ) (d : Demodulator) (s : Float) (f : Filling kind
   now-filled h = fills d.corr (omega (arith, f.at))
 
   next-at : n + 1 < places → (advanced d.corr).pos ≡ n + 1
-  next-at h = next_place d.corr (omega (arith, f.at)) ∙ ap (λ (k : ℕ). k + 1) f.at
+  next-at h = next_place_lem d.corr (omega (arith, f.at)) ∙ ap (λ (k : ℕ). k + 1) f.at
 
   filling-on : n + 1 < places → Filling kind (n + 1) (step_of d s).state
   filling-on h =

@@ -1,5 +1,5 @@
 -- The receiver's loop over samples at 8,000 Hz, turn by turn. Assumes nothing.
-use Prim.Native.Nat.{ℕ, ◌+◌, ◌-◌, ◌*◌, ◌<◌, ◌≤◌}
+use Prim.Native.Nat.{ℕ, ◌+◌, ◌-◌, ◌<◌, ◌≤◌}
 use mathlib.Core.Path.{◌≡◌, refl, sym, ap, ◌∙◌}
 use mathlib.Core.List.{List, [], ◌++◌, append-nil, append_assoc}
 use native.Mathlib.Nat.{add-zero}
@@ -13,7 +13,6 @@ use Rattle.happenings.specs.declared.happening.Happening.{Happening}
 use Rattle.demodulation.specs.Demod.{Demodulator, Step, happens, hearing, step_of, Tuned}
 use Rattle.demodulation.proofs.DemodLaws.{hearing-turn, hearing-end, hearing-two, after_turn, happenings-turn, step-tuned}
 use Rattle.demodulation.specs.Listening.{Put}
-use Rattle.demodulation.specs.declared.hearing.HeardAll.{HeardAll}
 
 -- ---- one put after another
 pub put-none : (n : ℕ) (codes : List ℕ) → Codes codes → Put n codes [] n codes

@@ -21,7 +21,7 @@ const FLOOR_EPSILON: f64 = 1e-12;
 
 const FLOOR_MIN_FRACTION: f64 = 0.1;
 
-#[derive(Drop)]
+#[derive(Clone, Copy)]
 pub struct CarrierDetector {
     pub level: f64,
     pub floor: f64,

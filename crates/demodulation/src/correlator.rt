@@ -18,7 +18,7 @@ pub struct Rings {
 }
 
 // The rings' next place, whether all places were filled, and the phases of the two tones.
-#[derive(Drop)]
+#[derive(Clone, Copy)]
 pub struct Correlator {
     pub pos: usize,
     pub filled: bool,
@@ -39,7 +39,7 @@ pub fn multiply(i: &mut [f64; 27], q: &mut [f64; 27], pos: usize, cosine: f64, s
 
 // The rings' sums over their first places, in place order; over all places they are the matched filter.
 // A sample changes one place of each ring, so the sums over the places before it are carried from sample to sample.
-#[derive(Drop)]
+#[derive(Clone, Copy)]
 pub struct Sums {
     pub mark_i: f64,
     pub mark_q: f64,

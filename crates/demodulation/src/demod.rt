@@ -26,7 +26,7 @@ pub enum Event {
 }
 
 // What is reported: the detector, once a block was dominant.
-#[derive(Drop)]
+#[derive(Clone, Copy)]
 pub struct Latch {
     pub qualified: bool,
     pub qualified_ever: bool,

@@ -4,7 +4,7 @@ ghost use Rattle.demodulation.specs.Goertzel.{goertzel_new, goertzel_feed, goert
 
 use numeric::sine::{TAU, cosine};
 
-#[derive(Drop)]
+#[derive(Clone, Copy)]
 pub struct Goertzel {
     pub coeff: f64,
     pub s1: f64,

@@ -11,7 +11,7 @@ use numeric::compare::absolute;
 const GARDNER_GAIN: f64 = 0.15;
 
 // Symbol timing: a phase that runs from one symbol boundary, at 1.0, to the next.
-#[derive(Drop)]
+#[derive(Clone, Copy)]
 pub struct Timing {
     pub sym_phase: f64,
     pub sym_inc: f64,
