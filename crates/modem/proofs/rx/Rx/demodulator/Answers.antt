@@ -1,0 +1,9 @@
+-- `Rx::demodulator` meets its contract: a sound state has a tuned one. Assumes nothing.
+use mathlib.Core.Path.{refl}
+use Rattle.modem.specs.ListenerRep.{demod_of}
+use Rattle.modem.specs.RxRep.{receiver_of}
+use Rattle.modem.proofs.rx.Rx.demodulator.Goals as goal
+
+pub returns : goal.returns
+unfolding receiver_of demod_of
+returns c = (refl, c.requires.listener.demod)

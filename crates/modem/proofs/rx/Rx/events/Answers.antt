@@ -1,0 +1,11 @@
+-- The queue's is the receiver's. Assumes nothing.
+use Rattle.modem.specs.Rx.{event_of}
+use Rattle.modem.specs.RxRep.{receiver_of}
+use Rattle.modem.proofs.rx.Rx.events.Goals as goal
+
+pub returns : goal.returns
+unfolding receiver_of event_of
+returns c =
+    let p = c.requires in
+    let n = c.next-next.ensures in
+    (rw (n.oldest, n.rest.waits), record { listener = p.listener; bytes = p.bytes; events = n.rest.sound })
