@@ -342,6 +342,28 @@ def equation_args(lines, name):
     pass
 
 
+def with_bodies(text, bodies):
+    """An answer that cites another gets what that says: its `c` is another step's today, and all that it cites has a name of its own."""
+    for _ in range(4):
+        words = set()
+
+        def body(m):
+            words.update(bodies[m.group(1)][0])
+            b = bodies[m.group(1)][1]
+            return b if re.fullmatch(r"[\w.'-]+", b) else "(" + b + ")"
+        cited = [n for n in bodies if re.search(r"(?<![\w'.-])" + re.escape(n) + r" c(?:\.before)*(?![\w'.-])", text)]
+        first = text.split("\n", 1)
+        if not cited:
+            break
+        new = re.sub(r"(?<![\w'.-])(" + "|".join(re.escape(n) for n in sorted(cited, key=len, reverse=True)) + r") c(?:\.before)*(?![\w'.-])(?!\s*=|\s+κs\s*=)", body, text)
+        if new == text:
+            break
+        text = new
+        if words:
+            text = "unfolding " + " ".join(dict.fromkeys(first[0].split()[1:] + sorted(words))) + "\n" + text.split("\n", 1)[1] if first[0].startswith("unfolding") else "unfolding " + " ".join(sorted(words)) + "\n" + text
+    return text
+
+
 def turn(crate_name, fn, path, data, clauses=None):
     own = "::".join([crate_name] + fn.split("/"))
     names = Names(data, clauses, own)
@@ -360,7 +382,7 @@ def turn(crate_name, fn, path, data, clauses=None):
     bykey = {}
     for o, n in names.needs:
         bykey.setdefault(norm(o), n)
-    invs, answers, helpers = [], [], []
+    invs, answers, helpers, bodies = [], [], [], {}
     loop_of = {norm_step(l[0][0]): (l[0][1], l[1], ch) for l, ch in zip(names.loops, names.changed)}
     renamed = {}
     for comments, name, lines in decls:
@@ -381,6 +403,10 @@ def turn(crate_name, fn, path, data, clauses=None):
                 if k >= len(lines):
                     break
             rest = lines[k:]
+            whole = "\n".join(rest)
+            e = re.match(r"((?:unfolding[^\n]*\n)?)" + re.escape(name) + r" c(?: κs)?\s*=\s*(.*)$", whole, re.S)
+            if e:
+                bodies[name] = (e.group(1).split()[1:], e.group(2).strip())
             if new is None:
                 if not re.search(r"(same.length|shared.slice|slice.write|slice.read)", need):
                     said.append(f"{fn}: no goal for {need}")
@@ -418,6 +444,8 @@ def turn(crate_name, fn, path, data, clauses=None):
         # binders of the body that hide a parameter are left to the eye
         def sub(mm):
             w = mm.group(0)
+            if re.search(r"[{;]\s*$", mm.string[: mm.start()]) and re.match(r" =\s", mm.string[mm.end():]):
+                return w
             return table.get(w, w)
         if "l" in re.findall(r"(?<![\w.'-])l(?![\w'-])", t):
             t = re.sub(r"(?<![\w.'-])l(?![\w'-])", "l'", t)
@@ -432,7 +460,7 @@ def turn(crate_name, fn, path, data, clauses=None):
         t = turned_text("\n".join(lines), names)
         ans_out.append((name, comments, t, True))
     for comments, name, new, rest in answers:
-        t = "\n".join(rest)
+        t = with_bodies("\n".join(rest), bodies)
         t = re.sub(r"(?m)^" + re.escape(name) + r" c κs(?=[\s=])", new + " c", t)
         t = re.sub(r"(?m)^" + re.escape(name) + r"(?=[\s=])", new, t)
         t = turned_text(t, names)

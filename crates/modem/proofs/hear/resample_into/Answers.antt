@@ -25,6 +25,15 @@ slice_bounds-run-end-2 c =
     let f = room-few (state_of s.args.r) n s.requires.2 s.requires.0.rates.src_low s.requires.1 in
     omega (arith, e, f, s.requires.3)
 
+pub slice_bounds-run-end-3 : goal.slice_bounds-run-end-3
+unfolding state_of
+slice_bounds-run-end-3 c = sym (length-take-le _ _ ((let s = c in
+    let m = c.max_output_len-room.ensures in
+    let n = length s.args.samples.now in
+    let e = c.count_in-need.ensures ∙ room-is (state_of s.args.r) n c.max_output_len-room.result (omega (arith, s.requires.2)) m in
+    let f = room-few (state_of s.args.r) n s.requires.2 s.requires.0.rates.src_low s.requires.1 in
+    omega (arith, e, f, s.requires.3))))
+
 pub returns : goal.returns
 unfolding state_of
 returns c =

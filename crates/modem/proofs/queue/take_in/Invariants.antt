@@ -7,7 +7,7 @@ use Rattle.modem.proofs.queue.take_in.Given as goal
 
 abbrev pub invariant-loop-i : goal.invariant-loop-i
 invariant-loop-i l = (l.i ≤ length l.codes)
-    × Going l.codes (record { bytes = record { l.held = l.initial.held; l.count = l.initial.count }; events = events_in l.initial.logged l.initial.events_count }) l.held l.count (events_in l.logged l.events_count) l.i
+    × Going l.codes (record { bytes = record { held = l.initial.held; count = l.initial.count }; events = events_in l.initial.logged l.initial.events_count }) l.held l.count (events_in l.logged l.events_count) l.i
 
 abbrev pub decreases-loop-i : goal.decreases-loop-i
 decreases-loop-i l = length l.codes - l.i

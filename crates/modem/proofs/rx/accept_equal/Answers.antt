@@ -37,9 +37,6 @@ hear_plain-h-requires c =
     let p = passes _ _ _ s.requires.1 in
     (record { sound = s.requires.0.listener.demod; places = c.no_codes-codes.ensures; few = omega (arith, p.few) }, p.few)
 
-pub slice_bounds-take_in-end : goal.slice_bounds-take_in-end
-slice_bounds-take_in-end c = sym (length-take-le _ _ (array-share-prefix-codes c))
-
 pub take_in-q-requires : goal.take_in-q-requires
 take_in-q-requires c =
     let s = c in
@@ -56,9 +53,6 @@ pub overflow_add-listener : goal.overflow_add-listener
 overflow_add-listener c =
     let s = c in
     omega (arith, (passes _ _ _ s.requires.1).end)
-
-pub slice_bounds-tally_of-end : goal.slice_bounds-tally_of-end
-slice_bounds-tally_of-end c = sym (length-take-le _ _ (array-share-prefix-codes-2 c))
 
 pub returns : goal.returns
 unfolding receiver_of accepted_write accepted_by bad_stops_by

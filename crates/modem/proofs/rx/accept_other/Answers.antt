@@ -14,9 +14,6 @@ accept-t-requires c =
     let p = passes _ _ _ s.requires.1 in
     record { sound = s.requires.0.listener; few = p.few; end = p.end; places = c.no_codes-codes.ensures }
 
-pub slice_bounds-take_in-end : goal.slice_bounds-take_in-end
-slice_bounds-take_in-end c = sym (length-take-le _ _ (array-share-prefix-codes c))
-
 pub take_in-q-requires : goal.take_in-q-requires
 take_in-q-requires c =
     let s = c in
@@ -27,9 +24,6 @@ take_in-q-requires c =
       events = s.requires.0.events;
       room = rw c.accept-t.ensures.heard (bytes_fit _ _ _ (listener-listens s.args.rx.listener l) p.room p.few);
     }
-
-pub slice_bounds-tally_of-end : goal.slice_bounds-tally_of-end
-slice_bounds-tally_of-end c = sym (length-take-le _ _ (array-share-prefix-codes-2 c))
 
 pub returns : goal.returns
 unfolding receiver_of accepted_write accepted_by bad_stops_by
