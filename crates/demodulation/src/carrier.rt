@@ -122,7 +122,7 @@ const OWN_LEAK_GUARD: f64 = 0.005;
 const DOMINANCE_RATIO: f64 = 40.0;
 
 // The filters for the far end's mark, at five offsets, and for this end's own two tones; and what the block holds so far.
-#[derive(Drop)]
+#[derive(Clone, Copy)]
 pub struct ToneDominance {
     pub mark: [Goertzel; 5],
     pub own: [Goertzel; 2],
@@ -131,14 +131,14 @@ pub struct ToneDominance {
 }
 
 // What a sample makes of its block: the block goes on, or it ends, with narrow power and floored remainder.
-#[derive(Drop)]
+#[derive(Clone, Copy)]
 pub enum Verdict {
     Going,
     Dominant(f64, f64),
     Not(f64, f64),
 }
 
-#[derive(Drop)]
+#[derive(Clone, Copy)]
 pub struct Judged {
     pub state: ToneDominance,
     pub verdict: Verdict,

@@ -9,7 +9,7 @@ use numeric::sine::TAU;
 use refusal::DSP_RATE;
 
 // The products of the last 27 samples, one symbol, with each tone in quadrature. A new product takes the oldest one's place.
-#[derive(Drop)]
+#[derive(Clone, Copy)]
 pub struct Rings {
     pub mark_i: [f64; 27],
     pub mark_q: [f64; 27],

@@ -18,7 +18,7 @@ use numeric::root::roots;
 use refusal::DSP_RATE;
 
 // What one step brought: a change of the carrier, or none.
-#[derive(Drop)]
+#[derive(Clone, Copy)]
 pub enum Event {
     Nothing,
     CarrierUp,
@@ -83,7 +83,7 @@ fn event_of(before: bool, after: bool) -> Event
 }
 
 // The state but for the rings: small enough to be handed on by value at each sample.
-#[derive(Drop)]
+#[derive(Clone, Copy)]
 pub struct Core {
     pub corr: Correlator,
     pub dominance: ToneDominance,
@@ -96,21 +96,21 @@ pub struct Core {
 }
 
 // The core after a sample, and what came of it.
-#[derive(Drop)]
+#[derive(Clone, Copy)]
 pub struct CoreStep {
     pub core: Core,
     pub heard: Heard,
     pub event: Event,
 }
 
-#[derive(Drop)]
+#[derive(Clone, Copy)]
 pub struct Demodulator {
     pub(crate) rings: Rings,
     pub(crate) core: Core,
 }
 
 // The state after a sample, and what came of it.
-#[derive(Drop)]
+#[derive(Clone, Copy)]
 pub struct Step {
     pub state: Demodulator,
     pub heard: Heard,

@@ -13,7 +13,7 @@ use demodulation::{Demodulator, Kind, hear};
 use refusal::{Acceptance, DSP_RATE, Refusal, is_accepted, rate_ok};
 use resampling::Resampler;
 
-#[derive(Drop)]
+#[derive(Clone, Copy)]
 pub struct Listener {
     pub(crate) resampler: Resampler,
     pub(crate) demod: Demodulator,

@@ -9,7 +9,7 @@ use demodulation::Event;
 use happenings::{Happening, happening_of};
 
 // Received bytes: the first `count` wait.
-#[derive(Drop)]
+#[derive(Clone, Copy)]
 pub struct Bytes {
     pub held: [u8; 512],
     pub count: usize,
@@ -104,7 +104,7 @@ impl Bytes {
 }
 
 // Carrier events: the first `count` wait; true is up.
-#[derive(Drop)]
+#[derive(Clone, Copy)]
 pub struct Events {
     pub held: [bool; 64],
     pub count: usize,
@@ -202,7 +202,7 @@ impl Events {
 }
 
 // The two queues.
-#[derive(Drop)]
+#[derive(Clone, Copy)]
 pub struct Queues {
     pub bytes: Bytes,
     pub events: Events,

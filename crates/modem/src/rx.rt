@@ -21,7 +21,7 @@ use happenings::tally_of;
 use refusal::{Acceptance, Counted};
 use resampling::Resampler;
 
-#[derive(Drop)]
+#[derive(Clone, Copy)]
 pub struct Rx {
     listener: Listener,
     out: Bytes,

@@ -36,7 +36,7 @@ pub struct Keying {
     pub samples: u64,
 }
 
-#[derive(Drop)]
+#[derive(Clone, Copy)]
 pub struct TableTx {
     hops: Hops,
     bits: [bool; 4096],

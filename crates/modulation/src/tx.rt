@@ -18,7 +18,7 @@ use numeric::counts::nearest;
 use refusal::{Acceptance, Counted, DSP_RATE, Refusal, is_accepted, rate_ok};
 use resampling::Resampler;
 
-#[derive(Drop)]
+#[derive(Clone, Copy)]
 pub struct Tx {
     rate: u32,
     tones: TonePair,

@@ -12,7 +12,7 @@ use crate::judge::judge_line;
 use happenings::{Happening, happening_of};
 
 // A line: its first 64 characters, and whether there were more.
-#[derive(Drop)]
+#[derive(Clone, Copy)]
 pub struct Line {
     chars: [u8; 64],
     len: usize,
@@ -20,7 +20,7 @@ pub struct Line {
 }
 
 // What is heard changes: the station's unended line, whether what comes is skipped, its reading, and its counts.
-#[derive(Drop)]
+#[derive(Clone, Copy)]
 pub struct Decoder {
     station: u16,
     line: Line,
