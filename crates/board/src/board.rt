@@ -16,7 +16,7 @@ use modem::{Kind, Listener};
 use refusal::{Acceptance, Refusal};
 use tide::{Decoder, Shown};
 
-#[derive(Drop)]
+#[derive(Clone, Copy)]
 pub struct Board {
     listener: Listener,
     decoder: Decoder,

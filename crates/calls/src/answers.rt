@@ -6,7 +6,7 @@ ghost use Rattle.calls.specs.Answers.{number_in, count_in, bit, heard_of};
 use refusal::{Acceptance, Counted};
 
 // Document 01's number, 0 where the call is accepted; and the count, 0 where it is refused.
-#[derive(Drop)]
+#[derive(Clone, Copy)]
 pub struct Numbers {
     pub number: u32,
     pub count: usize,
@@ -38,7 +38,7 @@ pub(crate) fn tell(answers: &mut [u64], at: usize, t: Numbers)
 
 // What a call of the receiver answers: the write's refusal, 0 where it is accepted; bytes read; events taken; carrier, 1 or 0; framing errors
 // since fresh; and the write's bad stops.
-#[derive(Drop)]
+#[derive(Clone, Copy)]
 pub struct Heard {
     pub number: u32,
     pub bytes: usize,
