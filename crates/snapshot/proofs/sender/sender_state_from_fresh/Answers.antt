@@ -1,0 +1,8 @@
+-- `sender::sender_state_from_fresh` meets its contract. Assumes nothing.
+use Rattle.snapshot.specs.SenderState.{sender_state_run}
+use Rattle.snapshot.proofs.SenderCalls.{sender-traced}
+use Rattle.snapshot.proofs.sender.sender_state_from_fresh.Goals as goal
+
+pub returns : goal.returns
+unfolding sender_state_run
+returns c = sender-traced _ _ _ _ c.sender_from_fresh-s.ensures.state_after c.show_accepted.ensures

@@ -1,0 +1,5 @@
+-- `state::put_resampler` meets its contract. Assumes nothing.
+use Rattle.snapshot.proofs.state.put_resampler.Goals as goal
+
+pub returns : goal.returns
+returns c = rw (← c.resampler-r.ensures.0) c.put_numbers.ensures
