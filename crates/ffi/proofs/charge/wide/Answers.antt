@@ -4,19 +4,15 @@ use mir.Syntax.{w16, w64}
 use mir.Val.{SFits}
 use mir.ValLaws.{to_z-of_z}
 use native.Mathlib.Omega.{arith}
-use Rattle.ffi.proofs.charge.wide.Statement.{statement}
-use Rattle.ffi.proofs.charge.wide.Tie as tie
+use Rattle.ffi.proofs.charge.wide.Goals as goal
 
 fits : (z : ℤ) → SFits w16 z → SFits w64 z
 fits z f = record { sfits = omega (arith, f.sfits) }
 
-cast-result : tie.Need-overflow-cast-result
-cast-result c = rw (to_z-of_z w16 c.args.part c.ranges.part) (fits _ c.ranges.part)
+pub overflow_cast-result : goal.overflow_cast-result
+overflow_cast-result c = rw (to_z-of_z w16 c.args.part c.ranges.part) (fits _ c.ranges.part)
 
-returns : tie.Need-returns
+pub returns : goal.returns
 returns c =
     let f = c.ranges.part in
     rw (to_z-of_z w16 c.args.part f) (to_z-of_z w64 c.args.part (fits _ f))
-
-pub wide_spec : {M : Type 1} → statement M
-wide_spec = tie.close (tie.spec cast-result returns)
