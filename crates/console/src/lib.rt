@@ -13,4 +13,4 @@ pub use numbers::{Input, read_numbers};
 pub use text::{
     one_more, print_answer, print_field, print_pooled, print_reading, print_signed, run,
 };
-pub use words::{Named, decimal_up_to, number_word, role_word};
+pub use words::{Named, decimal_up_to, number_word, role_word, word_count, word_into};

@@ -1,9 +1,10 @@
-// Numbers as text on standard input: decimal, one a line, each line ended by 0A. They are stored in lent memory, and counted where they find
+// Numbers as text: decimal, one a line, each line ended by 0A. They are stored in lent memory, and counted where they find
 // no room there.
 ghost use Rattle.std.specs.Prelude.{◌≡◌, set};
 ghost use Rattle.console.specs.Numbers.{digit_after, grown, Steps, StepsOn, StepsSome, Reads, input_by};
 
 use crate::text::one_more;
+use std::io::Read;
 
 // What is known of a line that is not ended.
 #[derive(Drop)]
@@ -23,7 +24,7 @@ struct Numbers {
     line: Line,
 }
 
-// What standard input says.
+// What the input says.
 #[derive(Drop)]
 pub enum Input {
     // So many numbers.
@@ -132,20 +133,18 @@ struct Turn {
     failed: bool,
 }
 
-// One read of standard input.
-fn read_some(t: Numbers, out: &mut [u64]) -> Turn
+// One read of the input.
+fn read_some<R: Read>(input: &mut R, t: Numbers, out: &mut [u64]) -> Turn
     ensures { StepsSome t out.old result.numbers out.new }
 {
     let mut block = io::buffer();
-    let got = libc::read(0, &mut block);
-    if got < 0 {
+    let Ok(n) = input.read(&mut block) else {
         return Turn {
             numbers: t,
             more: false,
             failed: true,
         };
-    }
-    let n = io::count(got, &block);
+    };
     if n == 0 {
         return Turn {
             numbers: t,
@@ -161,8 +160,8 @@ fn read_some(t: Numbers, out: &mut [u64]) -> Turn
     }
 }
 
-// All of standard input, in turns counted down as those of a text are.
-fn read_to_end(t: Numbers, out: &mut [u64]) -> Turn
+// All of the input, in turns counted down as those of a text are.
+fn read_to_end<R: Read>(input: &mut R, t: Numbers, out: &mut [u64]) -> Turn
     ensures { StepsSome t out.old result.numbers out.new }
 {
     let mut r = Turn {
@@ -172,7 +171,7 @@ fn read_to_end(t: Numbers, out: &mut [u64]) -> Turn
     };
     let mut turns = u64::MAX;
     while turns > 0 && r.more {
-        r = read_some(r.numbers, out);
+        r = read_some(input, r.numbers, out);
         turns -= 1;
     }
     r
@@ -191,15 +190,15 @@ fn input_of(t: Numbers) -> Input
     }
 }
 
-// The numbers of standard input, stored from the front of the lent memory on; those that find no room there are only counted.
-pub fn read_numbers(out: &mut [u64]) -> Input
+// The numbers of the input, stored from the front of the lent memory on; those that find no room there are only counted.
+pub fn read_numbers<R: Read>(input: &mut R, out: &mut [u64]) -> Input
     ensures { Reads out.old result out.new }
 {
     let fresh = Numbers {
         count: 0,
         line: Line::Blank,
     };
-    let r = read_to_end(fresh, out);
+    let r = read_to_end(input, fresh, out);
     if r.failed {
         return Input::Unreadable;
     }

@@ -4,6 +4,7 @@ ghost use Rattle.std.specs.Prelude.{◌≡◌, ◌+◌, min, nat_abs};
 ghost use Rattle.tide.specs.DecoderRep.{most_count, Sound};
 ghost use Rattle.console.specs.Text.{Taken, Read, ReadSome, Judges};
 
+use std::io::Read;
 use tide::{Decoder, Reading, Shown};
 
 // The decoder, how many lines it has judged (the count holds at the most that it can say), and whether all answers so far were written.
@@ -168,21 +169,19 @@ struct Turn {
     failed: bool,
 }
 
-// One read of standard input.
-fn read_block(t: Text) -> Turn
+// One read of the input.
+fn read_block<R: Read>(input: &mut R, t: Text) -> Turn
     requires { Sound t.decoder }
     ensures { ReadSome t result.text }
 {
     let mut block = io::buffer();
-    let got = libc::read(0, &mut block);
-    if got < 0 {
+    let Ok(n) = input.read(&mut block) else {
         return Turn {
             text: t,
             more: false,
             failed: true,
         };
-    }
-    let n = io::count(got, &block);
+    };
     if n == 0 {
         return Turn {
             text: t,
@@ -191,16 +190,17 @@ fn read_block(t: Text) -> Turn
         };
     }
     let r = after_block(t, &block[..n]);
+    let more = r.told;
     Turn {
         text: r,
-        more: r.told,
+        more,
         failed: false,
     }
 }
 
-// All of standard input. A proved loop has to end, and nothing says that the input does: the loop counts its turns down, from a number
-// that no run uses up.
-fn read_all(t: Text) -> Turn
+// All of the input. A proved loop has to end, and nothing says that the input does: the loop counts its turns down, from a number that no
+// run uses up.
+fn read_all<R: Read>(input: &mut R, t: Text) -> Turn
     requires { Sound t.decoder }
     ensures { ReadSome t result.text }
 {
@@ -211,14 +211,14 @@ fn read_all(t: Text) -> Turn
     };
     let mut turns = u64::MAX;
     while turns > 0 && r.more {
-        r = read_block(r.text);
+        r = read_block(input, r.text);
         turns -= 1;
     }
     r
 }
 
-// The lines of standard input, judged for a station by a fresh decoder.
-fn judge_input(station: u16) -> Turn
+// The lines of the input, judged for a station by a fresh decoder.
+fn judge_input<R: Read>(input: &mut R, station: u16) -> Turn
     ensures { Judges station result.text }
 {
     let fresh = Text {
@@ -226,7 +226,7 @@ fn judge_input(station: u16) -> Turn
         lines: 0,
         told: true,
     };
-    read_all(fresh)
+    read_all(input, fresh)
 }
 
 // The reading, where all answers were written.
@@ -237,9 +237,10 @@ fn tell_reading(station: u16, t: Text) -> bool {
     false
 }
 
-// Judges the lines of standard input for a station. What failed is told in one line on standard error, and no reading follows it.
-pub fn run(station: u16) {
-    let r = judge_input(station);
+// Judges the lines of the input, which is standard input, for a station. What failed is told in one line on standard error, and no reading
+// follows it.
+pub fn run<R: Read>(input: &mut R, station: u16) {
+    let r = judge_input(input, station);
     if r.failed {
         io::write_all(2, b"tideline: standard input cannot be read\n");
         return;

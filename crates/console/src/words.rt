@@ -1,8 +1,9 @@
 // The words of a command: numbers and roles.
-ghost use Rattle.std.specs.Prelude.{◌≡◌, ◌≤◌};
+ghost use Rattle.std.specs.Prelude.{◌≡◌, ◌≤◌, length};
 ghost use Rattle.console.specs.Words.{with_digit, up_to_most, decimal_of, Says};
 
 use bell103::Role;
+use std::env::{Env, FillError};
 
 // What a word for the role says.
 #[derive(Drop)]
@@ -68,16 +69,46 @@ fn role_of(word: &[u8]) -> Named
     Named::Unknown
 }
 
+// Puts the i-th word of the command at the start of the buffer, and says how many bytes it has: none where there is no such word, or where the
+// buffer is too short for it.
+pub fn word_into<E: Env>(env: &E, i: usize, buf: &mut [u8]) -> usize
+    ensures { result ≤ length buf.new }
+{
+    match env.arg(i, buf) {
+        Ok(n) => n,
+        Err(_) => 0,
+    }
+}
+
+// Whether the command has an i-th word.
+fn has_word<E: Env>(env: &E, i: usize) -> bool {
+    let mut buf = [0u8; 1];
+    match env.arg(i, &mut buf) {
+        Ok(_) => true,
+        Err(FillError::TooLong) => true,
+        Err(FillError::NotPresent) => false,
+    }
+}
+
+// How many words the command has, the program's name among them.
+pub fn word_count<E: Env>(env: &E) -> usize {
+    let mut n = 0;
+    while n < usize::MAX && has_word(env, n) {
+        n += 1;
+    }
+    n
+}
+
 // The number that the i-th word of the command says; 0 where it says none up to 65,535.
-pub fn number_word(i: usize) -> u16 {
+pub fn number_word<E: Env>(env: &E, i: usize) -> u16 {
     let mut buf = [0u8; 64];
-    let n = os::arg(i, &mut buf);
+    let n = word_into(env, i, &mut buf);
     decimal(&buf[..n])
 }
 
 // What the i-th word of the command says of the role.
-pub fn role_word(i: usize) -> Named {
+pub fn role_word<E: Env>(env: &E, i: usize) -> Named {
     let mut buf = [0u8; 64];
-    let n = os::arg(i, &mut buf);
+    let n = word_into(env, i, &mut buf);
     role_of(&buf[..n])
 }
