@@ -1,6 +1,6 @@
 // Document 01's program: the tide lines on standard input, judged for station 7.
 #![tactic(auto)]
 
-fn main() {
-    console::run(7);
+fn main(rt: HostRuntime) {
+    console::run(&mut rt.stdin(), 7);
 }

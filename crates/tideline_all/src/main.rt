@@ -1,6 +1,6 @@
 // The same on lines of every answer and at every limit.
 #![tactic(auto)]
 
-fn main() {
-    console::run(7);
+fn main(rt: HostRuntime) {
+    console::run(&mut rt.stdin(), 7);
 }
