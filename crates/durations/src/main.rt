@@ -10,20 +10,20 @@
 mod complain;
 mod tell;
 
-use console::{Input, number_word, read_numbers};
+use console::{Input, number_word, read_numbers, word_count};
 use numeric::ends::smaller;
 
 // One length more than are summed, so that a list that is too long is seen to be so.
 const ROOM: usize = 1001;
 
-fn main() {
-    if os::arg_count() != 2 {
+fn main(rt: HostRuntime) {
+    if word_count(&rt) != 2 {
         complain::of_words();
         return;
     }
-    let rate = number_word(1) as u32;
+    let rate = number_word(&rt, 1) as u32;
     let mut lengths = [0u64; 1001];
-    let input = read_numbers(&mut lengths);
+    let input = read_numbers(&mut rt.stdin(), &mut lengths);
     match input {
         Input::Numbers(n) => {
             let k = smaller(n as usize, ROOM);
