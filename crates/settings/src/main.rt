@@ -12,19 +12,38 @@ mod complain;
 mod page;
 mod words;
 
+use bell103::Role;
+use std::rt::Files;
+use std::str::from_utf8;
 use words::Request;
 
-fn main() {
-    let mut path = io::buffer();
-    let request = words::read();
-    let n = os::arg(2, &mut path);
+fn main(rt: HostRuntime) {
+    let mut name = io::buffer();
+    let request = words::read(&rt);
+    let n = console::word_into(&rt, 2, &mut name);
     match request {
-        Request::Read => page::tell(&path[..n]),
+        Request::Read => tell(&rt, &name[..n]),
         Request::Write {
             rate,
             station,
             role,
-        } => page::change(&path[..n], rate, station, role),
+        } => change(&rt, &name[..n], rate, station, role),
         Request::Unclear(why) => complain::of_words(why),
+    }
+}
+
+// Prints the settings of the file of this name.
+fn tell<R: Files>(files: &R, name: &[u8]) {
+    match from_utf8(name) {
+        Ok(path) => page::tell(files, path),
+        Err(_) => complain::of_name(name),
+    }
+}
+
+// Writes settings into the file of this name.
+fn change<R: Files>(files: &R, name: &[u8], rate: u16, station: u16, role: Role) {
+    match from_utf8(name) {
+        Ok(path) => page::change(files, path, rate, station, role),
+        Err(_) => complain::of_name(name),
     }
 }

@@ -3,7 +3,8 @@ ghost use Rattle.std.specs.Prelude.{◌≡◌};
 ghost use Rattle.settings.specs.Words.{Says, asked, asked_role};
 
 use bell103::Role;
-use console::{Named, number_word, role_word};
+use console::{Named, number_word, role_word, word_count, word_into};
+use std::env::Env;
 
 // What is to be done.
 #[derive(Drop)]
@@ -74,12 +75,12 @@ fn ask(count: usize, verb: Verb, rate: u16, station: u16, named: Named) -> Reque
 }
 
 // A rate or a station that is no number up to 65,535 is asked for as 0, which the store refuses with 1 or 2.
-pub fn read() -> Request {
+pub fn read<E: Env>(env: &E) -> Request {
     let mut word = [0u8; 8];
-    let n = os::arg(1, &mut word);
+    let n = word_into(env, 1, &mut word);
     let verb = verb_of(&word[..n]);
-    let rate = number_word(3);
-    let station = number_word(4);
-    let named = role_word(5);
-    ask(os::arg_count(), verb, rate, station, named)
+    let rate = number_word(env, 3);
+    let station = number_word(env, 4);
+    let named = role_word(env, 5);
+    ask(word_count(env), verb, rate, station, named)
 }
