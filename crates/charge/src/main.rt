@@ -9,18 +9,18 @@
 mod bill;
 mod complain;
 
-use console::{Input, number_word, read_numbers};
+use console::{Input, number_word, read_numbers, word_count};
 
 // A RATE that is no number up to 65,535 is asked for as 0, which is refused with 1. Memory holds one number more than a month may have
 // calls, so that a longer list is refused with 44.
-fn main() {
-    if os::arg_count() != 2 {
+fn main(rt: HostRuntime) {
+    if word_count(&rt) != 2 {
         complain::of_words();
         return;
     }
-    let rate = number_word(1);
+    let rate = number_word(&rt, 1);
     let mut calls = [0u64; 5001];
-    let input = read_numbers(&mut calls);
+    let input = read_numbers(&mut rt.stdin(), &mut calls);
     match input {
         Input::Numbers(n) => bill::tell(rate as u32, &calls, n),
         Input::WrongLine(line) => complain::of_line(line),
