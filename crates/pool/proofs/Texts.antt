@@ -1,14 +1,12 @@
 -- Places in a text, and texts too short to say anything. Assumes nothing.
 use Prim.Native.Nat.{ℕ, suc, ◌+◌, ◌-◌, ◌<◌, ◌≤◌, min}
-use mathlib.Core.Path.{◌≡◌, refl, sym, ap, ◌∙◌}
+use mathlib.Core.Path.{◌≡◌, refl, sym, ◌∙◌}
 use mathlib.Core.List.{List, [], ◌∷◌}
 use native.Mathlib.Numerals.{add-one}
 use native.Mathlib.Omega.{arith, min_cases}
 use borrow.Author.Tests.{eq-eqb, ne_eqb}
-use lib.Dec.{eqb}
 use lib.ListN.{length, get_or, take, drop, length-drop, drop_of_length-le}
 use lib.Seq.{drop-cons, take_all}
-use Rattle.numeric.specs.If.{if◌then◌else◌}
 use Rattle.pool.specs.Fields.{place_of, number_of, above, level_in}
 use Rattle.pool.specs.Lines.{line_of}
 use Rattle.pool.specs.declared.fields.Level.TheVariants as level

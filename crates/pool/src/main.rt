@@ -10,6 +10,7 @@ mod lines;
 
 use lines::Gauges;
 use pooling::Pooled;
+use std::io::Read;
 use tide::Shown;
 
 // What failed, in one line on standard error.
@@ -39,14 +40,13 @@ fn tell(a: Shown, b: Shown, c: Shown) {
     }
 }
 
-// Whether standard input is at its end. One that can't be read is told from one that ends.
-fn at_end() -> bool {
+// Whether the input, which is standard input, is at its end. One that can't be read is told from one that ends.
+fn at_end<R: Read>(input: &mut R) -> bool {
     let mut more = [0u8; 1];
-    let got = libc::read(0, &mut more);
-    if got < 0 {
+    let Ok(got) = input.read(&mut more) else {
         io::write_all(2, b"pool: standard input cannot be read\n");
         return false;
-    }
+    };
     if got != 0 {
         complain_of_text();
         return false;
@@ -55,10 +55,10 @@ fn at_end() -> bool {
 }
 
 // The longest text that says three readings has 78 bytes: a text that fills the array is no such text.
-fn main() {
+fn main(rt: HostRuntime) {
     let mut text = [0u8; 128];
     let n = io::read_full(0, &mut text);
-    if at_end() {
+    if at_end(&mut rt.stdin()) {
         let said = lines::gauges_of(&text[..n]);
         match said {
             Gauges::Three { a, b, c } => tell(a, b, c),
