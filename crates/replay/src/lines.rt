@@ -4,6 +4,7 @@ ghost use Rattle.replay.specs.Decoder.{DecoderSound};
 ghost use Rattle.replay.specs.Lines.{ScansOn};
 
 use crate::decoder::{Decoder, PLACES, fresh, run};
+use std::io::Read;
 
 // One place more than the longest line has.
 const WIDTH: usize = 321;
@@ -122,8 +123,19 @@ fn no_characters() -> [u8; WIDTH]
     [0u8; WIDTH]
 }
 
+// How many bytes a read of standard input puts at the front; 0 at its end, and where it cannot be read.
+fn read_some(rt: &HostRuntime, input: &mut [u8]) -> usize
+    ensures { result ≤ length input.new }
+{
+    let mut stdin = rt.stdin();
+    match stdin.read(input) {
+        Ok(n) => n,
+        Err(_) => 0,
+    }
+}
+
 // Runs all lines that end. Nothing says that an input does, so the parts are counted, from a number that no run uses up.
-pub fn run_all() {
+pub fn run_all(rt: &HostRuntime) {
     let mut block = no_patterns();
     let mut line = no_characters();
     let mut d = fresh();
@@ -131,7 +143,7 @@ pub fn run_all() {
     let mut turns = u64::MAX;
     while turns > 0 {
         let mut input = io::buffer();
-        let got = io::count(libc::read(0, &mut input), &input);
+        let got = read_some(rt, &mut input);
         if got == 0 {
             return;
         }

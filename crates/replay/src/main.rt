@@ -31,6 +31,6 @@ mod receiver;
 mod resampler;
 mod sender;
 
-fn main() {
-    lines::run_all();
+fn main(rt: HostRuntime) {
+    lines::run_all(&rt);
 }
