@@ -17,11 +17,12 @@ mod header;
 mod text;
 mod words;
 
+use std::env::Env;
 use words::Request;
 
 // Sends standard input as the words of the command say.
-pub fn run() {
-    let request = words::read();
+pub fn run<E: Env>(env: &E) {
+    let request = words::read(env);
     match request {
         Request::Call { role, source } => text::send_text(role, source),
         Request::Unclear(why) => complain::of_words(why),

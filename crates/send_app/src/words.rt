@@ -3,11 +3,12 @@ ghost use Rattle.std.specs.Prelude.{◌≡◌};
 ghost use Rattle.send_app.specs.Words.{Says, counted, third_of, asked, asked_rate, asked_table};
 
 use bell103::Role;
-use console::{Named, number_word, role_word};
+use console::{Named, number_word, role_word, word_count, word_into};
 use refusal::rate_ok;
+use std::env::Env;
 
 // How the samples are written: floats of 32 bits, or PCM of 16.
-#[derive(Drop)]
+#[derive(Clone, Copy)]
 pub enum Kind {
     Float,
     Pcm16,
@@ -120,15 +121,15 @@ fn said_by(word: &[u8]) -> Third
     Third::Unknown
 }
 
-fn third_word(i: usize) -> Third {
+fn third_word<E: Env>(env: &E, i: usize) -> Third {
     let mut buf = [0u8; 64];
-    let n = os::arg(i, &mut buf);
+    let n = word_into(env, i, &mut buf);
     said_by(&buf[..n])
 }
 
-pub fn read() -> Request {
-    let named = role_word(1);
-    let rate = number_word(2);
-    let said = third_word(3);
-    ask(os::arg_count(), named, rate, said)
+pub fn read<E: Env>(env: &E) -> Request {
+    let named = role_word(env, 1);
+    let rate = number_word(env, 2);
+    let said = third_word(env, 3);
+    ask(word_count(env), named, rate, said)
 }
