@@ -1,6 +1,6 @@
 // A recording of a call on standard input, heard by a board: the lines judged, and the reading.
 #![tactic(auto)]
 
-fn main() {
-    listen_app::run();
+fn main(rt: HostRuntime) {
+    listen_app::run(&rt, &mut rt.stdin());
 }

@@ -10,7 +10,7 @@ use wav::{Fault, Out, Wav};
 pub const BLOCK: usize = 1024;
 
 // What the last byte brought: nothing to act on, the header, a full block, or why the recording is not read.
-#[derive(Drop)]
+#[derive(Clone, Copy)]
 pub enum Progress {
     None,
     Start(u32),
@@ -19,7 +19,7 @@ pub enum Progress {
 }
 
 // A reader of the recording. Its samples fill a block that is lent.
-#[derive(Drop)]
+#[derive(Clone, Copy)]
 pub struct BlockReader {
     pub(crate) wav: Wav,
     // How many samples of the block are in; 0 where it is full too.
@@ -35,7 +35,7 @@ pub struct Heard {
 }
 
 // The part of a reader that a byte changes beside its `Wav`: small, so that no byte copies much.
-#[derive(Drop)]
+#[derive(Clone, Copy)]
 struct Filling {
     n: usize,
     progress: Progress,

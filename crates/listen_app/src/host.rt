@@ -15,7 +15,7 @@ const MOST_LINES: usize = 103;
 
 const MOST_COUNT: u64 = 18446744073709551615;
 
-#[derive(Drop)]
+#[derive(Clone, Copy)]
 pub struct Host {
     // What a fresh board takes.
     rate: u32,

@@ -13,25 +13,27 @@ mod host;
 mod session;
 mod words;
 
+use std::env::Env;
+use std::io::Read;
 use words::Request;
 
-// Hears standard input as the words of the command say.
-pub fn run() {
-    let request = words::read();
+// Hears the input, which is standard input, as the words of the command say.
+pub fn run<E: Env, R: Read>(env: &E, input: &mut R) {
+    let request = words::read(env);
     match request {
         Request::Recording { station, role } => {
-            session::close(session::hear_recording(station, role))
+            session::close(session::hear_recording(input, station, role))
         }
         Request::Floats {
             station,
             role,
             rate,
-        } => session::close(session::hear_floats(station, role, rate)),
+        } => session::close(session::hear_floats(input, station, role, rate)),
         Request::Pcm {
             station,
             role,
             rate,
-        } => session::close(session::hear_pcm(station, role, rate)),
+        } => session::close(session::hear_pcm(input, station, role, rate)),
         Request::Unclear(why) => complain::of_words(why),
     }
 }

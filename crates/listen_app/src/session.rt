@@ -12,6 +12,7 @@ use crate::block_reader::{BLOCK, BlockReader, Progress, hear};
 use crate::complain;
 use crate::host::Host;
 use bell103::Role;
+use std::io::Read;
 use wav::{End, Fault, Wav};
 
 // The host, the reader of the recording's bytes, and the block that its samples fill.
@@ -67,21 +68,19 @@ struct Turn {
     failed: bool,
 }
 
-// One read of standard input.
-fn read_part(s: Session) -> Turn
+// One read of the input.
+fn read_part<R: Read>(input: &mut R, s: Session) -> Turn
     requires { SessionSound s }
     ensures { HeardSome (listening s) result.session }
 {
     let mut part = io::buffer();
-    let got = libc::read(0, &mut part);
-    if got < 0 {
+    let Ok(n) = input.read(&mut part) else {
         return Turn {
             session: s,
             more: false,
             failed: true,
         };
-    }
-    let n = io::count(got, &part);
+    };
     if n == 0 {
         return Turn {
             session: s,
@@ -107,9 +106,9 @@ fn goes_on(reader: BlockReader, told: bool) -> bool {
     }
 }
 
-// All of standard input. A proved loop has to end, and nothing says that the input does: the loop counts its turns down, from a number
+// All of the input. A proved loop has to end, and nothing says that the input does: the loop counts its turns down, from a number
 // that no run uses up.
-fn read_all(s: Session) -> Turn
+fn read_all<R: Read>(input: &mut R, s: Session) -> Turn
     requires { SessionSound s }
     ensures { HeardSome (listening s) result.session }
 {
@@ -120,7 +119,7 @@ fn read_all(s: Session) -> Turn
     };
     let mut turns = u64::MAX;
     while turns > 0 && r.more {
-        r = read_part(r.session);
+        r = read_part(input, r.session);
         turns -= 1;
     }
     r
@@ -151,8 +150,8 @@ pub struct Closed {
     failed: bool,
 }
 
-// Hears standard input to its end, from a reader's first state on.
-fn hear_all(wav: Wav, rate: u32, station: u16, role: Role) -> Closed
+// Hears the input to its end, from a reader's first state on.
+fn hear_all<R: Read>(input: &mut R, wav: Wav, rate: u32, station: u16, role: Role) -> Closed
     ensures { HeardAll (listener wav [] (fresh_host rate station role)) result }
 {
     let first = Session {
@@ -160,7 +159,7 @@ fn hear_all(wav: Wav, rate: u32, station: u16, role: Role) -> Closed
         reader: BlockReader::new(wav),
         block: no_samples(),
     };
-    let r = read_all(first);
+    let r = read_all(input, first);
     let s = r.session;
     let end = s.reader.wav.finish();
     let host = hear_last(s);
@@ -172,24 +171,24 @@ fn hear_all(wav: Wav, rate: u32, station: u16, role: Role) -> Closed
 }
 
 // A recording with a header; its rate takes the place of the one given here.
-pub fn hear_recording(station: u16, role: Role) -> Closed
+pub fn hear_recording<R: Read>(input: &mut R, station: u16, role: Role) -> Closed
     ensures { HeardAll (of_recording station role) result }
 {
-    hear_all(Wav::new(), 8000, station, role)
+    hear_all(input, Wav::new(), 8000, station, role)
 }
 
 // Floats with no header.
-pub fn hear_floats(station: u16, role: Role, rate: u32) -> Closed
+pub fn hear_floats<R: Read>(input: &mut R, station: u16, role: Role, rate: u32) -> Closed
     ensures { HeardAll (of_floats station role rate) result }
 {
-    hear_all(Wav::raw(), rate, station, role)
+    hear_all(input, Wav::raw(), rate, station, role)
 }
 
 // 16-bit numbers with no header.
-pub fn hear_pcm(station: u16, role: Role, rate: u32) -> Closed
+pub fn hear_pcm<R: Read>(input: &mut R, station: u16, role: Role, rate: u32) -> Closed
     ensures { HeardAll (of_pcm station role rate) result }
 {
-    hear_all(Wav::raw_16(), rate, station, role)
+    hear_all(input, Wav::raw_16(), rate, station, role)
 }
 
 // What is to be said at the end.

@@ -3,8 +3,9 @@ ghost use Rattle.std.specs.Prelude.{◌≡◌, true};
 ghost use Rattle.listen_app.specs.Words.{asked, asked_rate, asked_format, s16};
 
 use bell103::Role;
-use console::{Named, number_word, role_word};
+use console::{Named, number_word, role_word, word_count, word_into};
 use refusal::rate_ok;
+use std::env::Env;
 
 // Which word is wrong.
 #[derive(Drop)]
@@ -83,15 +84,16 @@ fn says_s16(word: &[u8]) -> bool
 }
 
 // Whether the i-th word of the command is s16.
-fn is_s16(i: usize) -> bool {
+fn is_s16<E: Env>(env: &E, i: usize) -> bool {
     let mut buf = [0u8; 64];
-    let n = os::arg(i, &mut buf);
+    let n = word_into(env, i, &mut buf);
     says_s16(&buf[..n])
 }
 
-pub fn read() -> Request {
-    let station = number_word(1);
-    let named = role_word(2);
-    let rate = number_word(3);
-    ask(os::arg_count(), station, named, rate, is_s16(4))
+pub fn read<E: Env>(env: &E) -> Request {
+    let station = number_word(env, 1);
+    let named = role_word(env, 2);
+    let rate = number_word(env, 3);
+    let is_pcm = is_s16(env, 4);
+    ask(word_count(env), station, named, rate, is_pcm)
 }

@@ -1,6 +1,6 @@
 // The same on floats with no header, two of which no board takes.
 #![tactic(auto)]
 
-fn main() {
-    listen_app::run();
+fn main(rt: HostRuntime) {
+    listen_app::run(&rt, &mut rt.stdin());
 }
