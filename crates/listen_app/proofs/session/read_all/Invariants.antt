@@ -1,0 +1,9 @@
+-- What each turn reads stands behind what was read before. The measure is the number of turns that are left. Assumes nothing.
+use Rattle.listen_app.specs.Session.{listening, HeardSome}
+use Rattle.listen_app.proofs.session.read_all.Given as goal
+
+abbrev pub invariant-loop-turns : goal.invariant-loop-turns
+invariant-loop-turns l = HeardSome (listening l.initial.input.session) l.initial.turns.session
+
+abbrev pub decreases-loop-turns : goal.decreases-loop-turns
+decreases-loop-turns l = l.input
