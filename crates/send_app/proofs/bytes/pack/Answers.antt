@@ -23,6 +23,3 @@ loop-i-preserved c =
       ap (λ (z : List ℕ). take (width_of k * (i + 1)) z) c.put_sample.ensures
           ∙ packs-more k _ _ _ i _ c.loop-i-test.true c.requires.0 c.loop-i.invariant.1 c.offset.ensures c.loop-i.invariant.2,
     )
-
-pub returns : goal.returns
-returns c = (packs-all (bytes_of c.args.kind) (width_of c.args.kind) _ _ _ c.loop-i.invariant.0 c.loop-i-test.false c.loop-i.invariant.2, c.loop-i.invariant.1)

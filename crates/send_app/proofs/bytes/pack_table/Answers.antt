@@ -23,6 +23,3 @@ loop-i-preserved c =
       ap (λ (z : List ℕ). take (2 * (i + 1)) z) e
           ∙ table_more bytes _ i _ c.loop-i-test.true c.requires.0 c.loop-i.invariant.1 c.loop-i.invariant.2,
     )
-
-pub returns : goal.returns
-returns c = (packs-all whole_bytes 2 _ _ _ c.loop-i.invariant.0 c.loop-i-test.false c.loop-i.invariant.2, c.loop-i.invariant.1)

@@ -6,19 +6,8 @@ use Rattle.send_app.proofs.call.send_samples.Goals as goal
 pub loop-sent-init : goal.loop-sent-init
 loop-sent-init c = (c.requires, omega arith, omega arith)
 
-pub send_block-s-requires : goal.send_block-s-requires
-send_block-s-requires c = (c.loop-sent.invariant.0, c.loop-sent.invariant.1, c.Block-of.ensures.0)
-
 pub returns-then-not-s : goal.returns-then-not-s
 returns-then-not-s c = (c.loop-sent.invariant.2, λ e. absurd (false≢true e))
-
-pub loop-sent-smaller : goal.loop-sent-smaller
-loop-sent-smaller c =
-    let p : 0 < c.args.samples - c.loop-sent.sent = omega (arith, c.loop-sent-test.true) in
-    omega (arith, c.Block-of.ensures.1, c.Block-of.ensures.2 p, c.loop-sent-test.true)
-
-pub loop-sent-preserved : goal.loop-sent-preserved
-loop-sent-preserved c = (c.send_block-s.ensures.0, c.send_block-s.ensures.1, omega (arith, c.Block-of.ensures.1, c.loop-sent-test.true))
 
 pub returns : goal.returns
 returns c = (c.loop-sent.invariant.2, λ e. omega (arith, c.loop-sent.invariant.2, c.loop-sent-test.false))
