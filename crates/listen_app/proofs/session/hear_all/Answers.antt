@@ -4,15 +4,15 @@ use Rattle.listen_app.proofs.Hearing.{begun, heard-from, heard_all}
 use Rattle.listen_app.proofs.session.hear_all.Goals as goal
 
 pub read_all-r-requires : goal.read_all-r-requires
-read_all-r-requires c =
+read_all-r-requires g c =
     let n = c.new-2.ensures.0 in
     record { board = c.new.ensures.sound; reader = record { room = c.no_samples.ensures; few = omega (arith, n) } }
 
 pub hear_last-host-requires : goal.hear_last-host-requires
-hear_last-host-requires c = c.read_all-r.ensures.sound
+hear_last-host-requires g c = c.read_all-r.ensures.sound
 
 pub returns : goal.returns
-returns c =
+returns g c =
     let r = c in
     let b = r.no_samples.result in
     let e = r.new-2 in

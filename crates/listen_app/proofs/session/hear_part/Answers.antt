@@ -25,19 +25,17 @@ loop-at-smaller c =
     let h = c.hear-h.ensures in
     omega (arith, h.on, h.within)
 
-pub loop-at-preserved : goal.loop-at-preserved
-loop-at-preserved c =
-    let l = c in
-    let h = c.hear-h in
-    let a = l.args in (
-      c.act_on-host.ensures.0,
-      h.ensures.sound,
-      h.ensures.within,
-      ap (λ (m : Listener). heard_bytes m (drop h.result.at a.input.now)) c.act_on-host.ensures.1
-          ∙ (h.ensures.same _ ∙ l.loop-at.invariant.3),
-    )
-
 pub returns : goal.returns
 returns c =
     let l = c.loop-at.invariant in
     (record { board = l.0; reader = l.1 }, parts-end _ _ _ _ l.2 c.loop-at-test.false l.3)
+
+pub loop-at-preserved : goal.loop-at-preserved
+loop-at-preserved c =
+    let h = c.hear-h in (
+      c.act_on-host.ensures.board_sound,
+      h.ensures.sound,
+      h.ensures.within,
+      ap (λ (m : Listener). heard_bytes m (drop h.result.at c.args.input.now)) c.act_on-host.ensures.result_value
+          ∙ (h.ensures.same _ ∙ c.loop-at.invariant.3),
+    )

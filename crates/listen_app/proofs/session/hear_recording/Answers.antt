@@ -2,4 +2,4 @@
 use Rattle.listen_app.proofs.session.hear_recording.Goals as goal
 
 pub returns : goal.returns
-returns c = rw c.new.ensures at c.hear_all.ensures
+returns g c = rw c.new.ensures at c.hear_all.ensures

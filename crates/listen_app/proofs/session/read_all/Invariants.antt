@@ -3,7 +3,7 @@ use Rattle.listen_app.specs.Session.{listening, HeardSome}
 use Rattle.listen_app.proofs.session.read_all.Given as goal
 
 abbrev pub invariant-loop-turns : goal.invariant-loop-turns
-invariant-loop-turns l = HeardSome (listening l.initial.r.session) l.r.session
+invariant-loop-turns g l = HeardSome (listening l.initial.r.session) l.r.session
 
 abbrev pub decreases-loop-turns : goal.decreases-loop-turns
-decreases-loop-turns l = l.turns
+decreases-loop-turns g l = l.turns

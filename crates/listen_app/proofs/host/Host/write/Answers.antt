@@ -12,9 +12,6 @@ slice_bounds-verdicts-end c =
     let a = all_told s.args.self.board _ _ _ _ s.requires w.no_verdicts-verdicts.ensures w.write_into-w.ensures in
     rw c.in-Heard.is at a
 
-pub slice_bounds-heard-end : goal.slice_bounds-heard-end
-slice_bounds-heard-end c = sym (length-take-le _ _ (array-share-prefix-verdicts c))
-
 pub returns-in-Refused : goal.returns-in-Refused
 returns-in-Refused c =
     let w = c in
@@ -22,8 +19,13 @@ returns-in-Refused c =
     let m = c.missed.ensures in
     writes-refused _ _ _ w.write_into-w.ensures.writes _ _ c.in-Refused.is m.0 m.1 c.number.ensures s.requires
 
+pub slice_bounds-heard-end : goal.slice_bounds-heard-end
+slice_bounds-heard-end c =
+    let a = all_told c.args.self.board _ _ _ _ c.requires c.no_verdicts-verdicts.ensures c.write_into-w.ensures in
+    sym (length-take-le _ _ (rw c.in-Heard.is at a))
+
 pub returns-in-Heard : goal.returns-in-Heard
 returns-in-Heard c =
-    let w = c in
     let h = c.heard.ensures in
-    writes-heard _ _ _ w.write_into-w.ensures.writes _ _ _ c.in-Heard.is (sym (slice-aggregate-heard c)) h.0 h.1 refl
+    let a = all_told c.args.self.board _ _ _ _ c.requires c.no_verdicts-verdicts.ensures c.write_into-w.ensures in
+    writes-heard _ _ _ c.write_into-w.ensures.writes _ _ _ c.in-Heard.is (length-take-le _ _ (rw c.in-Heard.is at a)) h.0 h.1 refl
