@@ -10,7 +10,7 @@ use lib.Dec.{ltb}
 use lib.Ieee.{Float}
 use lib.ListN.{length, take, length-map}
 use Rattle.numeric.specs.F64.{◌⊘◌, ◌<ᶠ◌, f64, one64}
-use Rattle.numeric.specs.If.{if◌then◌else◌}
+use Rattle.std.specs.Bool.{if◌then◌else◌}
 use Rattle.numeric.specs.Fold.{fold}
 use Rattle.demodulation.specs.Carrier.{level_of, floor_min_fraction, floor_of, ratio_of, rise_ratio, fall_ratio, detector, while_up, while_down, updated}
 use Rattle.demodulation.specs.Carrier.{goes_on, ended_answer, Answered, fresh_dominance, with_sample, dominance_reset, dominance_step}

@@ -12,7 +12,7 @@ use lib.Dec.{ltb, ltb→lt}
 use lib.Ieee.{Float}
 use lib.ListN.{length, length-append, get_or, drop, drop_of_length-le}
 use lib.Seq.{drop-cons}
-use Rattle.numeric.specs.If.{if◌then◌else◌}
+use Rattle.std.specs.Bool.{if◌then◌else◌}
 use Rattle.numeric.proofs.Tested.{at-number}
 use Rattle.framing.specs.Frame.{with_bit, most_errors, ended, idle_bit, data_bit, stop_bit, bad_stop, bytes_of, bad_stops_of, Deframed, push_bit, heard, bad_stop_count, after}
 use Rattle.framing.proofs.FrameLaws.{push-idle, push-data, push-stop}

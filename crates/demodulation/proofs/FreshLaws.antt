@@ -8,7 +8,7 @@ use borrow.Author.Tests.{lt-ltb, le-ltb, ltb-true, ltb-false}
 use lib.Dec.{ltb}
 use lib.Ieee.{Float}
 use lib.ListN.{length}
-use Rattle.numeric.specs.If.{if◌then◌else◌}
+use Rattle.std.specs.Bool.{if◌then◌else◌}
 use Rattle.framing.specs.Frame.{fresh_deframer}
 use Rattle.demodulation.specs.Carrier.{BlockAnswer, goes_on, ends_with, fresh_detector, fresh_dominance, dominance_step, yes_in, blocks_in, some_yes}
 use Rattle.demodulation.specs.Correlation.{places, advanced}

@@ -8,7 +8,7 @@ use native.Mathlib.Omega.{arith}
 use lib.ListN.{length}
 use lib.Ieee.{Float}
 use Rattle.numeric.specs.F64.{◌⊖◌, ◌≤ᶠ◌, one64}
-use Rattle.numeric.specs.If.{if◌then◌else◌}
+use Rattle.std.specs.Bool.{if◌then◌else◌}
 use Rattle.framing.specs.Frame.{fresh_deframer}
 use Rattle.framing.specs.declared.frame.Deframer.{Deframer}
 use Rattle.happenings.specs.declared.happening.Happening.{Happening}

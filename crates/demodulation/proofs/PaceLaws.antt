@@ -13,7 +13,7 @@ use borrow.Author.Tests.{ltb-true, ltb-false}
 use lib.Ieee.{Float, of_bits, of_int, neg, add, sub, mul, div, lt, le, eq}
 use lib.Ieee.Scale.{finite}
 use Rattle.numeric.specs.F64.{◌⊕◌, ◌⊖◌, ◌⊗◌, ◌⊘◌, ◌≤ᶠ◌, f64, zero64, one64}
-use Rattle.numeric.specs.If.{if◌then◌else◌}
+use Rattle.std.specs.Bool.{if◌then◌else◌}
 use Rattle.numeric.proofs.Tested.{at-number, both_left, both_right}
 use Rattle.numeric.specs.Bounds.{non_negative}
 use Rattle.numeric.proofs.Signed.{le-through, le-other, add-mono, le-self}

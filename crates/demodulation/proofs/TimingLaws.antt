@@ -6,7 +6,7 @@ use native.Mathlib.Nat.{add-zero}
 use native.Mathlib.Omega.{arith}
 use lib.Ieee.{Float}
 use Rattle.numeric.specs.F64.{◌<ᶠ◌, ◌≤ᶠ◌, zero64, half64, one64}
-use Rattle.numeric.specs.If.{if◌then◌else◌}
+use Rattle.std.specs.Bool.{if◌then◌else◌}
 use Rattle.framing.specs.Frame.{bytes_of, bad_stops_of, Deframed, waiting, push_bit, yielded, heard, bad_stop_count, after}
 use Rattle.framing.specs.declared.frame.Deframer.{Deframer}
 use Rattle.demodulation.specs.Timing.{timing, next_phase, crossed, residue_of, bounded, ticked, sliced, sliced_bits}

@@ -1,8 +1,7 @@
 -- carrier.rs, operation by operation: the carrier detector, and the test that the energy is the far end's mark tone. Assumes nothing.
-use Rattle.std.specs.Prelude.{ℕ, ◌+◌, ◌<◌, Bool, true, false, ◌||◌, List, [], ◌∷◌, ◌++◌, map, ltb, Float, ◌≡◌, take}
+use Rattle.std.specs.Prelude.{ℕ, ◌+◌, ◌<◌, Bool, true, false, ◌||◌, List, [], ◌∷◌, ◌++◌, map, ltb, Float, ◌≡◌, take, if◌then◌else◌}
 use Rattle.std.specs.Float.Ieee.{neg}
 use Rattle.numeric.specs.F64.{◌⊕◌, ◌⊖◌, ◌⊗◌, ◌⊘◌, ◌<ᶠ◌, f64, zero64, one64, two64, larger}
-use Rattle.numeric.specs.If.{if◌then◌else◌}
 use Rattle.numeric.specs.Fold.{fold}
 use Rattle.demodulation.specs.Goertzel.{goertzel_new, goertzel_feed, goertzel_power, goertzel_reset}
 use Rattle.demodulation.specs.declared.goertzel.Goertzel.{Goertzel}

@@ -1,7 +1,6 @@
 -- The correlator (rx.rs), operation by operation. Assumes nothing.
-use Rattle.std.specs.Prelude.{ℕ, ◌+◌, true, false, List, ltb, Float, set, replicate}
+use Rattle.std.specs.Prelude.{ℕ, ◌+◌, true, false, List, ltb, Float, set, replicate, if◌then◌else◌}
 use Rattle.numeric.specs.F64.{◌⊕◌, ◌⊖◌, ◌⊗◌, ◌⊘◌, f64, whole, zero64, tau}
-use Rattle.numeric.specs.If.{if◌then◌else◌}
 use Rattle.numeric.specs.Sine.{sine_of, cosine_of}
 use Rattle.numeric.specs.Root.{root_of}
 use Rattle.numeric.specs.Fold.{fold}

@@ -1,7 +1,6 @@
 -- rx.rs at 8,000 Hz, operation by operation: what one sample makes of the state, and what is heard in a list of samples. Assumes nothing.
-use Rattle.std.specs.Prelude.{ℕ, ◌<◌, ◌≤◌, Bool, true, false, not, ◌&&◌, ◌||◌, List, [], ◌∷◌, ◌++◌, Float, ◌≡◌, length}
+use Rattle.std.specs.Prelude.{ℕ, ◌<◌, ◌≤◌, Bool, true, false, not, ◌&&◌, ◌||◌, List, [], ◌∷◌, ◌++◌, Float, ◌≡◌, length, if◌then◌else◌}
 use Rattle.numeric.specs.F64.{whole}
-use Rattle.numeric.specs.If.{if◌then◌else◌}
 use Rattle.refusal.specs.Refusals.{dsp_rate}
 use Rattle.bell103.specs.Roles.{other_role, tones_of}
 use Rattle.framing.specs.Frame.{fresh_deframer, ended, heard, bad_stop_count, after}

@@ -1,7 +1,6 @@
 -- What the examples of the inner parts answer: the detector on one energy, and a block of equal samples. Assumes nothing.
-use Rattle.std.specs.Prelude.{ℕ, zero, suc, Float}
+use Rattle.std.specs.Prelude.{ℕ, zero, suc, Float, if◌then◌else◌}
 use Rattle.numeric.specs.F64.{f64}
-use Rattle.numeric.specs.If.{if◌then◌else◌}
 use Rattle.demodulation.specs.Carrier.{updated, fresh_detector, fresh_dominance, with_sample, dominance_step, BlockAnswer, ended_answer}
 use Rattle.demodulation.specs.declared.carrier.CarrierDetector.{CarrierDetector}
 use Rattle.demodulation.specs.declared.carrier.ToneDominance.{ToneDominance}

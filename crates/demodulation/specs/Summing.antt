@@ -1,8 +1,7 @@
 -- The correlator's sums, carried from sample to sample: a sample changes one place of each ring, so the sums over the places before it stand.
 -- Assumes nothing.
-use Rattle.std.specs.Prelude.{ℕ, ◌+◌, ◌≡◌, List, ltb, Float, length, take}
+use Rattle.std.specs.Prelude.{ℕ, ◌+◌, ◌≡◌, List, ltb, Float, length, take, if◌then◌else◌}
 use Rattle.numeric.specs.F64.{◌⊕◌, zero64}
-use Rattle.numeric.specs.If.{if◌then◌else◌}
 use Rattle.demodulation.specs.Correlation.{places, sum_of}
 use Rattle.demodulation.specs.declared.correlator.Rings.{Rings}
 use Rattle.demodulation.specs.declared.correlator.Sums.{Sums}

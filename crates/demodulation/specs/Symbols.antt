@@ -1,8 +1,7 @@
 -- Which samples at 8,000 Hz end a symbol, by which errors its boundaries are moved, and who hears alike. Assumes nothing.
-use Rattle.std.specs.Prelude.{ℕ, ◌+◌, ◌≡◌, Bool, false, List, [], ◌∷◌, ◌++◌, Float}
+use Rattle.std.specs.Prelude.{ℕ, ◌+◌, ◌≡◌, Bool, false, List, [], ◌∷◌, ◌++◌, Float, if◌then◌else◌}
 use Rattle.std.specs.Float.Ieee.{neg}
 use Rattle.numeric.specs.F64.{one64}
-use Rattle.numeric.specs.If.{if◌then◌else◌}
 use Rattle.numeric.specs.Interval.{Within}
 use Rattle.demodulation.specs.Correlation.{correlated}
 use Rattle.demodulation.specs.Timing.{error_of, crossed, ticked}

@@ -1,8 +1,7 @@
 -- Symbol timing and the slicer (rx.rs), operation by operation. Assumes nothing.
-use Rattle.std.specs.Prelude.{Bool, true, false, ◌&&◌, List, [], ◌∷◌, Float}
+use Rattle.std.specs.Prelude.{Bool, true, false, ◌&&◌, List, [], ◌∷◌, Float, if◌then◌else◌}
 use Rattle.std.specs.Float.Ieee.{neg}
 use Rattle.numeric.specs.F64.{◌⊕◌, ◌⊖◌, ◌⊗◌, ◌⊘◌, ◌<ᶠ◌, ◌≤ᶠ◌, f64, zero64, half64, one64, magnitude}
-use Rattle.numeric.specs.If.{if◌then◌else◌}
 use Rattle.bell103.specs.Roles.{samples_per_symbol}
 use Rattle.framing.specs.Frame.{Deframed, waiting, push_bit}
 use Rattle.framing.specs.declared.frame.Deframer.{Deframer}

@@ -5,7 +5,7 @@ use mathlib.Core.Path.{◌≡◌, sym, ap, ◌∙◌}
 use native.Mathlib.Numerals.{add-one}
 use native.Mathlib.Omega.{arith}
 use lib.Ieee.{Float}
-use Rattle.numeric.specs.If.{if◌then◌else◌}
+use Rattle.std.specs.Bool.{if◌then◌else◌}
 use Rattle.demodulation.specs.Carrier.{updated, fresh_detector}
 use Rattle.demodulation.specs.Selftest.{first_up}
 use Rattle.demodulation.specs.declared.carrier.CarrierDetector.{CarrierDetector}
