@@ -1,6 +1,6 @@
 -- How many samples bits last, without drift (request K7). Assumes nothing.
 use Rattle.std.specs.Prelude.{ℕ, ◌+◌, ◌*◌, ◌/◌, ◌%◌, ◌<◌, ◌≤◌, ◌≡◌, Bool, false, ◌||◌, List, [], ◌∷◌, ltb, length}
-use Rattle.numeric.specs.If.{if◌then◌else◌}
+use Rattle.std.specs.Prelude.{if◌then◌else◌}
 use Rattle.numeric.specs.Fold.{fold}
 use Rattle.numeric.specs.Counts.{samples_for_bits}
 use Rattle.refusal.specs.Refusals.{Reply, given, refused, number_of, rate_refused}

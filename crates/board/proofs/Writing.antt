@@ -7,7 +7,7 @@ use native.Mathlib.Omega.{arith}
 use lib.Dec.{eqb}
 use lib.ListN.{length}
 use lib.Ieee.{Float}
-use Rattle.numeric.specs.If.{if◌then◌else◌}
+use Rattle.std.specs.Prelude.{if◌then◌else◌}
 use Rattle.refusal.specs.Refusals.{number_of, acceptance_of, reply_of, first, rate_refused}
 use Rattle.refusal.proofs.RefusalLaws.{first-yes, first-no, number-some, refused-by}
 use Rattle.framing.specs.Framing as framing

@@ -1,6 +1,6 @@
 -- The plain board: from samples to a reading. It is fed the calls' arguments alone. Assumes nothing.
 use Rattle.std.specs.Prelude.{ℕ, ◌+◌, Bool, not, List, [], ◌∷◌, ◌++◌, ltb, eqb, length, Float}
-use Rattle.numeric.specs.If.{if◌then◌else◌}
+use Rattle.std.specs.Prelude.{if◌then◌else◌}
 use Rattle.bell103.specs.declared.Role.{Role}
 use Rattle.refusal.specs.Refusals.{Reply, reply_of, first, rate_refused}
 use Rattle.happenings.specs.Happening.{bytes_in, bad_stops_in}

@@ -1,6 +1,6 @@
 -- The station that `new` is given. Assumes nothing.
 use Rattle.std.specs.Prelude.{ℕ, eqb}
-use Rattle.numeric.specs.If.{if◌then◌else◌}
+use Rattle.std.specs.Prelude.{if◌then◌else◌}
 use Rattle.refusal.specs.declared.Refusal.TheVariants.{Station}
 use Rattle.refusal.specs.declared.Acceptance.{Acceptance}
 use Rattle.refusal.specs.declared.Acceptance.TheVariants.{Accepted, Refused}

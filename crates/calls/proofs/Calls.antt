@@ -10,7 +10,7 @@ use lib.ListN.{length, get_or, take, drop, length-append, length-drop, take-appe
 use lib.Dec.{eqb}
 use lib.Seq.{drop-cons, drop-drop, get_or-drop, length-take-le}
 use lib.Ieee.{Float}
-use Rattle.numeric.specs.If.{if◌then◌else◌}
+use Rattle.std.specs.Prelude.{if◌then◌else◌}
 use Rattle.refusal.specs.Refusals.{Reply, given, refused, rates_refused, dsp_rate}
 use Rattle.resampling.specs.Resample.{State, fresh, Made, made, new_of, reset_of, Outcome, outcome, laid, unless_refused, refusal_of, ran_over, len_of, processed}
 use Rattle.resampling.specs.Flow.{Ran}

@@ -17,7 +17,7 @@ use Rattle.calls.proofs.Made.{accepted-only, refused-only}
 use Rattle.calls.specs.Answers.{bit}
 use Rattle.calls.specs.Resample.{Run, ran, after}
 use Rattle.calls.specs.Roles.{role_of}
-use Rattle.numeric.specs.If.{if◌then◌else◌}
+use Rattle.std.specs.Prelude.{if◌then◌else◌}
 use Rattle.calls.proofs.Calls.{after-after, after-start, kind_at, unrun}
 use Rattle.calls.specs.Script.{Outcome, bytes_for, Calls, reply, calls_for, sent_from, sender_after}
 use Rattle.calls.specs.ScriptSteps.{At, standing, called_at, Stepped}

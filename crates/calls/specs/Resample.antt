@@ -1,6 +1,6 @@
 -- Whole lists of calls of the resampler, each list from a fresh state. Assumes nothing.
 use Rattle.std.specs.Prelude.{ℕ, zero, suc, min, ◌+◌, ◌/◌, List, [], ◌∷◌, ◌++◌, eqb, length, get_or, take, drop, Float}
-use Rattle.numeric.specs.If.{if◌then◌else◌}
+use Rattle.std.specs.Prelude.{if◌then◌else◌}
 use Rattle.refusal.specs.Refusals.{Reply, given, refused, rates_refused, dsp_rate}
 use Rattle.resampling.specs.Resample.{State, Outcome, outcome, fresh, reset_of, len_of, processed}
 use Rattle.calls.specs.Answers.{count_in, reply}

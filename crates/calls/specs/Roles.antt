@@ -1,6 +1,6 @@
 -- A role as a number. Assumes nothing.
 use Rattle.std.specs.Prelude.{ℕ, eqb}
-use Rattle.numeric.specs.If.{if◌then◌else◌}
+use Rattle.std.specs.Prelude.{if◌then◌else◌}
 use Rattle.bell103.specs.declared.Role.{Role}
 use Rattle.bell103.specs.declared.Role.TheVariants.{Originate, Answer}
 

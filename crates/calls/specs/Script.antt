@@ -1,6 +1,6 @@
 -- Scripts of calls of a sender: the one of the port, and the one that has no floats (specs/Send.antt, Table.antt). Assumes nothing.
 use Rattle.std.specs.Prelude.{ℕ, zero, suc, min, ◌/◌, Bool, List, [], ◌∷◌, eqb, length, take, drop}
-use Rattle.numeric.specs.If.{if◌then◌else◌}
+use Rattle.std.specs.Prelude.{if◌then◌else◌}
 use Rattle.refusal.specs.Refusals.{Reply, given, refused}
 use Rattle.calls.specs.Answers.{bit}
 use Rattle.calls.specs.Resample.{Run, ran, after, kind_in, number_for}

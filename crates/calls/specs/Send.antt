@@ -2,7 +2,7 @@
 use Rattle.std.specs.Prelude.{ℕ, ◌%◌, ◌^◌, List, eqb, length, Float}
 use Rattle.std.specs.Float.{binary32}
 use Rattle.std.specs.Float.Ieee.{of_bits}
-use Rattle.numeric.specs.If.{if◌then◌else◌}
+use Rattle.std.specs.Prelude.{if◌then◌else◌}
 use Rattle.refusal.specs.Refusals.{Reply, given, refused, rate_refused, dsp_rate}
 use Rattle.modulation.specs.Tx.{Sender, Reading, read_of, Adjusted, amplitude_of, pending_of, duration_of, fresh_sender}
 use Rattle.modulation.specs.Queueing.{Queueing, write_of, idle_mark_of}

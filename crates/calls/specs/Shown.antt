@@ -1,6 +1,6 @@
 -- What a board shows, as numbers. Assumes nothing.
 use Rattle.std.specs.Prelude.{ℕ, ◌&&◌, List, [], ◌∷◌, ◌++◌, eqb, leb, length, drop}
-use Rattle.numeric.specs.If.{if◌then◌else◌}
+use Rattle.std.specs.Prelude.{if◌then◌else◌}
 use Rattle.tide.specs.Frame.{bits_of}
 use Rattle.tide.specs.Judge.{Shown, none, shows}
 use Rattle.board.specs.Plain.{Plain}

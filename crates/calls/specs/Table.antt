@@ -1,6 +1,6 @@
 -- Whole lists of calls of the sender that has no floats, each list from a fresh state. Assumes nothing.
 use Rattle.std.specs.Prelude.{ℕ, List, eqb, leb, ℤ, length}
-use Rattle.numeric.specs.If.{if◌then◌else◌}
+use Rattle.std.specs.Prelude.{if◌then◌else◌}
 use Rattle.modulation.specs.Requests.{write, idle_mark}
 use Rattle.modulation.specs.TableTx.{TableSender, TableQueueing, table_requested, TableReading, table_read_of, table_pending, fresh_table}
 use Rattle.calls.specs.Answers.{number_in}

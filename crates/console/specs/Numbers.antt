@@ -1,7 +1,7 @@
 -- Numbers as text, one a line: what a text is read as, and how the code holds it. Assumes nothing.
 use Rattle.std.specs.Prelude.{ℕ, ◌+◌, ◌-◌, ◌*◌, min, ◌≡◌, List, [], ◌∷◌, ◌++◌, ltb, eqb, length}
 use Rattle.std.proofs.lemmas.List.Edits.{sets}
-use Rattle.numeric.specs.If.{if◌then◌else◌}
+use Rattle.std.specs.Prelude.{if◌then◌else◌}
 use Rattle.numeric.specs.Fold.{fold}
 use Rattle.tide.specs.DecoderRep.{most_count}
 use Rattle.console.specs.declared.numbers.Line.{Line}

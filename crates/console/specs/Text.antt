@@ -1,6 +1,6 @@
 -- Text judged line by line: what a byte and what a block of bytes do to the decoder and to the number of lines. Assumes nothing.
 use Rattle.std.specs.Prelude.{ℕ, ◌+◌, min, ◌≡◌, List, length}
-use Rattle.numeric.specs.If.{if◌then◌else◌}
+use Rattle.std.specs.Prelude.{if◌then◌else◌}
 use Rattle.happenings.specs.Happening.{typed}
 use Rattle.happenings.specs.declared.happening.Happening.TheVariants.{Byte}
 use Rattle.tide.specs.Decoder.{fresh_decoder, move_at, took, took_all, lines_in}

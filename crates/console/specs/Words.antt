@@ -1,6 +1,6 @@
 -- The words of a command. Assumes nothing.
 use Rattle.std.specs.Prelude.{ℕ, ◌+◌, ◌-◌, ◌*◌, ◌≡◌, List, [], ◌∷◌, ltb}
-use Rattle.numeric.specs.If.{if◌then◌else◌}
+use Rattle.std.specs.Prelude.{if◌then◌else◌}
 use Rattle.bell103.specs.declared.Role.TheVariants.{Originate, Answer}
 use Rattle.console.specs.declared.words.Named.{Named}
 use Rattle.console.specs.declared.words.Named.TheVariants as named

@@ -1,6 +1,6 @@
 -- The line charge as numbers, for hosts in C. Assumes nothing.
 use Rattle.std.specs.Prelude.{ℕ, List, ◌∷◌, ltb, ℤ, pos, length, drop}
-use Rattle.numeric.specs.If.{if◌then◌else◌}
+use Rattle.std.specs.Prelude.{if◌then◌else◌}
 use Rattle.refusal.specs.Refusals as reply
 use Rattle.refusal.specs.Refusals.{Reply}
 use Rattle.charges.specs.declared.Month.{Month}

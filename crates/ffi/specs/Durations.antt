@@ -1,6 +1,6 @@
 -- How many samples bits last as numbers, for hosts in C. Assumes nothing.
 use Rattle.std.specs.Prelude.{ℕ, List, [], ◌∷◌, ◌++◌, ltb, length, drop}
-use Rattle.numeric.specs.If.{if◌then◌else◌}
+use Rattle.std.specs.Prelude.{if◌then◌else◌}
 use Rattle.refusal.specs.Refusals as reply
 use Rattle.refusal.specs.Refusals.{Reply}
 use Rattle.bell103.specs.declared.durations.Duration.{Duration}

@@ -1,7 +1,7 @@
 -- Three gauges and what they show together as numbers, for hosts in C. Assumes nothing.
 use Rattle.std.specs.Prelude.{ℕ, List, ◌∷◌, ltb, ℤ, pos, negsuc, length, drop}
 use Rattle.std.specs.Int.Signed.{lt_z}
-use Rattle.numeric.specs.If.{if◌then◌else◌}
+use Rattle.std.specs.Prelude.{if◌then◌else◌}
 use Rattle.refusal.specs.Refusals as reply
 use Rattle.refusal.specs.Refusals.{Reply}
 use Rattle.tide.specs.Judge.{Reading, Shown, none, shows}

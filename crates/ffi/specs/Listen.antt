@@ -1,6 +1,6 @@
 -- A list of a board's writes, from a fresh board on, for hosts in C. Assumes nothing.
 use Rattle.std.specs.Prelude.{ℕ, ◌*◌, ◌≡◌, List, ◌++◌, eqb, take, drop, Float}
-use Rattle.numeric.specs.If.{if◌then◌else◌}
+use Rattle.std.specs.Prelude.{if◌then◌else◌}
 use Rattle.board.specs.Plain.{Plain, Answer, fresh, new_number, after_all, answers_all}
 use Rattle.board.specs.Term.{Term3}
 use Rattle.board.specs.Runs.{width, writes_of, writes_run, numbers_all}

@@ -1,6 +1,6 @@
 -- The settings of a store as numbers, for hosts in C. Assumes nothing.
 use Rattle.std.specs.Prelude.{ℕ, List, ◌∷◌, ltb, length, drop}
-use Rattle.numeric.specs.If.{if◌then◌else◌}
+use Rattle.std.specs.Prelude.{if◌then◌else◌}
 use Rattle.refusal.specs.Refusals as reply
 use Rattle.refusal.specs.Refusals.{Reply}
 use Rattle.store.specs.declared.reading.Found.{Found}

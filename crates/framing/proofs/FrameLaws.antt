@@ -5,7 +5,7 @@ use mathlib.Core.Bool.{Bool, true, false}
 use native.Mathlib.Nat.{one-mul, add_comm}
 use lib.Bits.{or_shifted_r}
 use borrow.Author.Tests.{lt-ltb, le-ltb}
-use Rattle.numeric.specs.If.{if◌then◌else◌}
+use Rattle.std.specs.Prelude.{if◌then◌else◌}
 use Rattle.framing.specs.declared.frame.Deframer.{Deframer}
 use Rattle.framing.specs.declared.frame.Pushed.{Pushed}
 use Rattle.framing.specs.Frame.{mark, space, Deframed, bytes_of, deframed, idle_bit, with_bit, data_bit, stop_bit, frame_bit, push_bit, Pushes}

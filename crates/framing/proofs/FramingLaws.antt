@@ -7,7 +7,7 @@ use native.Mathlib.Omega.{arith}
 use borrow.Author.Tests.{ltb-true, ltb-false}
 use lib.Dec.{T, ltb, ltb→lt, eqb, eqb→eq}
 use lib.ListN.{length, length-append}
-use Rattle.numeric.specs.If.{if◌then◌else◌}
+use Rattle.std.specs.Prelude.{if◌then◌else◌}
 use Rattle.framing.specs.declared.frame.Deframer.{Deframer}
 use Rattle.framing.specs.Frame.{mark, space, frame_of, fresh_deframer, Idle, one_more, most_errors, idle_bit, data_bit, stop_bit, bad_stop, bytes_of, bad_stops_of, Deframed, push_bit, yielded, heard, bad_stop_count, after}
 use Rattle.framing.proofs.FrameLaws.{push-idle, push-data, push-stop}

@@ -1,7 +1,7 @@
 -- 8-N-1 framing: "Start space, eight data bits lowest first, stop mark". Assumes nothing.
 use Rattle.std.specs.Prelude.{ℕ, ◌+◌, ◌/◌, ◌%◌, ◌^◌, min, ◌≡◌, List, [], ◌∷◌, ◌++◌, Bool, true, false, ltb, eqb}
 use Rattle.std.specs.Int.Bits.{bit_or}
-use Rattle.numeric.specs.If.{if◌then◌else◌}
+use Rattle.std.specs.Prelude.{if◌then◌else◌}
 use Rattle.framing.specs.declared.frame.Deframer.{Deframer}
 use Rattle.framing.specs.declared.frame.Heard.{Heard}
 use Rattle.framing.specs.declared.frame.Heard.TheVariants.{Byte, Waiting, BadStop}

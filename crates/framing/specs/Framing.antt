@@ -1,6 +1,6 @@
 -- What is framed is heard, and what is heard was framed. Assumes nothing.
 use Rattle.std.specs.Prelude.{ℕ, ◌+◌, ◌<◌, ◌≤◌, min, ◌≡◌, Bool, true, not, ◌&&◌, List, [], ◌∷◌, ◌++◌, ltb, replicate}
-use Rattle.numeric.specs.If.{if◌then◌else◌}
+use Rattle.std.specs.Prelude.{if◌then◌else◌}
 use Rattle.framing.specs.declared.frame.Deframer.{Deframer}
 use Rattle.framing.specs.Frame.{mark, space, frame_of, Idle, one_more, bad_stops_of, Deframed, push_bit, heard, bad_stop_count, after}
 

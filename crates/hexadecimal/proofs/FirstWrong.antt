@@ -7,7 +7,7 @@ use lib.Dec.{ltb}
 use lib.ListN.{length, get_or, take}
 use native.Mathlib.Omega.{arith}
 use borrow.Author.Tests.{lt-ltb, le-ltb, ltb-false}
-use Rattle.numeric.specs.If.{if◌then◌else◌}
+use Rattle.std.specs.Prelude.{if◌then◌else◌}
 use Rattle.hexadecimal.specs.declared.Digits.{Digits}
 use Rattle.hexadecimal.specs.declared.Digits.TheVariants.{AllDigits, WrongAt}
 use Rattle.hexadecimal.specs.Hex.{hex, all_hex, further, first_wrong, is_none, Says}

@@ -1,6 +1,6 @@
 -- "Uppercase hexadecimal, two digits a byte": what characters say, and the characters that say a byte. Assumes nothing.
 use Rattle.std.specs.Prelude.{ℕ, suc, ◌+◌, ◌-◌, ◌*◌, ◌/◌, ◌%◌, ◌<◌, ◌≡◌, Bool, true, false, ◌&&◌, List, [], ◌∷◌, ltb, leb, length, get_or, take}
-use Rattle.numeric.specs.If.{if◌then◌else◌}
+use Rattle.std.specs.Prelude.{if◌then◌else◌}
 use Rattle.hexadecimal.specs.declared.Digits.{Digits}
 use Rattle.hexadecimal.specs.declared.Digits.TheVariants.{AllDigits, WrongAt}
 

@@ -8,7 +8,7 @@ use borrow.Author.Tests.{eqb-true, ltb-false}
 use lib.Dec.{ltb}
 use lib.ListN.{length, take}
 use lib.Ieee.{Float}
-use Rattle.numeric.specs.If.{if◌then◌else◌}
+use Rattle.std.specs.Prelude.{if◌then◌else◌}
 use Rattle.refusal.specs.Refusals.{first}
 use Rattle.refusal.proofs.RefusalLaws.{first-yes}
 use Rattle.happenings.specs.Happening.{bytes_in}

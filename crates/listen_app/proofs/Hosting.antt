@@ -10,7 +10,7 @@ use lib.Dec.{eqb}
 use lib.ListN.{length, take, drop, length-drop, drop_of_length-le}
 use lib.Seq.{take_all, drop-drop, drop-length}
 use lib.Ieee.{Float}
-use Rattle.numeric.specs.If.{if◌then◌else◌}
+use Rattle.std.specs.Prelude.{if◌then◌else◌}
 use Rattle.tide.specs.DecoderRep.{most_count}
 use Rattle.tide.proofs.DecoderRepLaws.{min-by}
 use Rattle.refusal.specs.Refusals.{number_of}

@@ -1,6 +1,6 @@
 -- A host, which keeps a plain board hearing: what it does with a block of samples. Assumes nothing.
 use Rattle.std.specs.Prelude.{ℕ, zero, suc, ◌+◌, ◌/◌, min, List, eqb, length, take, drop, Float}
-use Rattle.numeric.specs.If.{if◌then◌else◌}
+use Rattle.std.specs.Prelude.{if◌then◌else◌}
 use Rattle.bell103.specs.declared.Role.{Role}
 use Rattle.tide.specs.DecoderRep.{most_count}
 use Rattle.board.specs.Plain as plain

@@ -1,6 +1,6 @@
 -- What `listen` makes of the bytes of a recording: its samples go to a host in blocks. Assumes nothing.
 use Rattle.std.specs.Prelude.{ℕ, ◌+◌, ◌≤◌, ◌<◌, ◌≡◌, List, [], ◌∷◌, ◌++◌, eqb, length, take, drop, Float}
-use Rattle.numeric.specs.If.{if◌then◌else◌}
+use Rattle.std.specs.Prelude.{if◌then◌else◌}
 use Rattle.bell103.specs.declared.Role.{Role}
 use Rattle.wav.specs.Wav.{fresh_wav, raw_wav, raw16_wav, add_byte}
 use Rattle.wav.specs.declared.wav.Wav.{Wav}

@@ -1,6 +1,6 @@
 -- A session: a host hears what standard input gives, to its end. Assumes nothing.
 use Rattle.std.specs.Prelude.{ℕ, ◌≡◌, Bool, true, false, List}
-use Rattle.numeric.specs.If.{if◌then◌else◌}
+use Rattle.std.specs.Prelude.{if◌then◌else◌}
 use Rattle.board.specs.BoardRep.{BoardSound}
 use Rattle.wav.specs.Wav.{finish_of}
 use Rattle.wav.specs.declared.wav.End.{End}

@@ -7,7 +7,7 @@ use native.Mathlib.Omega.{arith}
 use lib.Dec.{ltb}
 use lib.ListN.{length}
 use lib.Ieee.{Float}
-use Rattle.numeric.specs.If.{if◌then◌else◌}
+use Rattle.std.specs.Prelude.{if◌then◌else◌}
 use Rattle.refusal.specs.Refusals.{dsp_rate, given, refused, first, reply_of, rate_refused}
 use Rattle.refusal.proofs.RefusalLaws.{first-yes, first-no}
 use Rattle.numeric.specs.Convert.{all_in_range}

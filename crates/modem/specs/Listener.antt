@@ -1,7 +1,7 @@
 -- What hears: the resampler, and the demodulator behind it at 8,000 Hz. A receiver has it and two queues; a board has it and the decoder of tide
 -- lines. Assumes nothing.
 use Rattle.std.specs.Prelude.{ℕ, ◌+◌, ◌≤◌, ◌≡◌, not, List, [], ◌++◌, ◌∷◌, ltb, length, Float}
-use Rattle.numeric.specs.If.{if◌then◌else◌}
+use Rattle.std.specs.Prelude.{if◌then◌else◌}
 use Rattle.refusal.specs.Refusals.{dsp_rate, first, rate_refused}
 use Rattle.resampling.specs.Resample as resample
 use Rattle.demodulation.specs.Demod.{Demodulator, hearing, fresh_demodulator, Tuned}

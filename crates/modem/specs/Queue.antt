@@ -1,6 +1,6 @@
 -- The receiver's two queues, read as lists, oldest first: what stands in unused places is no part of any promise. Assumes nothing.
 use Rattle.std.specs.Prelude.{ℕ, ◌+◌, ◌≤◌, min, ◌-◌, ◌≡◌, Bool, true, List, [], ◌∷◌, ◌++◌, ltb, length, take, drop}
-use Rattle.numeric.specs.If.{if◌then◌else◌}
+use Rattle.std.specs.Prelude.{if◌then◌else◌}
 use Rattle.numeric.specs.Fold.{fold}
 use Rattle.modem.specs.declared.queue.Bytes.{Bytes}
 use Rattle.modem.specs.declared.queue.Drained.{Drained}

@@ -4,7 +4,7 @@ use mathlib.Core.Path.{◌≡◌, refl, sym, ap, ◌∙◌}
 use mathlib.Core.Bool.{Bool, true, false}
 use mathlib.Core.List.{List, ◌++◌}
 use borrow.Author.Tests.{ltb-false}
-use Rattle.numeric.specs.If.{if◌then◌else◌}
+use Rattle.std.specs.Prelude.{if◌then◌else◌}
 use Rattle.refusal.specs.Refusals.{given, refused, acceptance_of}
 use Rattle.refusal.specs.declared.Refusal.TheVariants.{BitsWait}
 use Rattle.refusal.specs.declared.Acceptance.TheVariants.{Accepted, Refused}

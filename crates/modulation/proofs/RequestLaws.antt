@@ -4,7 +4,7 @@ use native.Mathlib.Omega.{arith}
 use mathlib.Core.Path.{◌≡◌, refl, sym, ap, ◌∙◌}
 use mathlib.Core.Bool.{Bool, true, false}
 use mathlib.Core.List.{List, [], ◌∷◌, ◌++◌, append_assoc, append-nil}
-use Rattle.numeric.specs.If.{if◌then◌else◌}
+use Rattle.std.specs.Prelude.{if◌then◌else◌}
 use Rattle.framing.specs.Frame.{mark, Idle, bad_stops_of, push_bit, yielded, heard, bad_stop_count, after}
 use Rattle.framing.specs.Framing.{AreBytes, HeardAs}
 use Rattle.framing.proofs.FramingLaws.{heard-append, after-append, bads-append, marks-heard, frames-heard}

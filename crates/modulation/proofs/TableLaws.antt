@@ -16,7 +16,7 @@ use lib.Signed.{mag}
 use lib.Ieee.{Float, le, lt, add, sub, mul, div, of_int, of_bits}
 use borrow.Author.Tests.{ltb-true, ltb-false, lt-ltb, le-ltb, le-leb}
 use Rattle.numeric.specs.F64.{◌⊖◌, ◌≤ᶠ◌, whole, magnitude}
-use Rattle.numeric.specs.If.{if◌then◌else◌}
+use Rattle.std.specs.Prelude.{if◌then◌else◌}
 use Rattle.numeric.specs.Rounding.{round_usize}
 use Rattle.numeric.specs.Sine.{sine_of, reduced, folded, horner, series, half_turn}
 use Rattle.numeric.proofs.Tested.{all_below, at-number, both_left, both_right}

@@ -8,7 +8,7 @@ use borrow.Author.Tests.{le-leb, lt-leb}
 use lib.IntN.{ℤ}
 use lib.ListN.{length, set, take}
 use lib.Seq.{take_all}
-use Rattle.numeric.specs.If.{if◌then◌else◌}
+use Rattle.std.specs.Prelude.{if◌then◌else◌}
 use Rattle.refusal.specs.Refusals.{given, acceptance_of, reply_of, is_accepted}
 use Rattle.refusal.specs.declared.Acceptance.{Acceptance}
 use Rattle.bell103.specs.declared.Role.{Role}

@@ -1,7 +1,7 @@
 -- The sender's state as lists of f64, for comparisons bit for bit. An f32 stands as the f64 of its value. Assumes nothing.
 use Rattle.std.specs.Prelude.{ℕ, ◌-◌, Bool, List, [], ◌∷◌, ◌++◌, map, length, replicate, Float}
 use Rattle.numeric.specs.F64.{whole, zero64, one64}
-use Rattle.numeric.specs.If.{if◌then◌else◌}
+use Rattle.std.specs.Prelude.{if◌then◌else◌}
 use Rattle.modulation.specs.Bits.{most_bits}
 use Rattle.modulation.specs.Tx.{Sender}
 

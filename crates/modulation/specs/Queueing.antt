@@ -1,6 +1,6 @@
 -- What a caller queues for the sender: `write` and `write_idle_mark`. Assumes nothing.
 use Rattle.std.specs.Prelude.{ℕ, ◌≡◌, refl, Bool, true, false, List, ◌++◌}
-use Rattle.numeric.specs.If.{if◌then◌else◌}
+use Rattle.std.specs.Prelude.{if◌then◌else◌}
 use Rattle.refusal.specs.Refusals.{Reply, given, refused, acceptance_of}
 use Rattle.modulation.specs.Requests.{Request, write, idle_mark, bits_of, is_refused, reply_to, asked}
 use Rattle.modulation.specs.Bits.{queued, BitsHeld}

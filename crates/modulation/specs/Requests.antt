@@ -1,6 +1,6 @@
 -- Both ends' framing: what the sender is asked to queue is what the deframer of the other end hears. Assumes nothing.
 use Rattle.std.specs.Prelude.{ℕ, ◌*◌, Bool, List, [], ◌∷◌, ◌++◌, length}
-use Rattle.numeric.specs.If.{if◌then◌else◌}
+use Rattle.std.specs.Prelude.{if◌then◌else◌}
 use Rattle.refusal.specs.Refusals.{Reply, given, refused}
 use Rattle.framing.specs.Frame.{mark}
 use Rattle.framing.specs.Framing.{marks, frames_of, AreBytes}

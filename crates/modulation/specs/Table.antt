@@ -1,7 +1,7 @@
 -- The table of the sender that has no floats: a whole turn of the sine in 1,600 places. Assumes nothing.
 use Rattle.std.specs.Prelude.{ℕ, ◌+◌, ◌*◌, ◌-◌, ◌%◌, ◌≤◌, ◌<◌, ◌≡◌, Bool, true, false, List, ltb, leb, length, get_or, ℤ, pos, negsuc, neg_ℤ, Float}
 use Rattle.numeric.specs.F64.{◌⊗◌, ◌⊘◌, ◌⊖◌, ◌≤ᶠ◌, f64, whole, tau, magnitude}
-use Rattle.numeric.specs.If.{if◌then◌else◌}
+use Rattle.std.specs.Prelude.{if◌then◌else◌}
 use Rattle.numeric.specs.Rounding.{round_usize}
 use Rattle.numeric.specs.Sine.{sine_of}
 

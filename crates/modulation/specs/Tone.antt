@@ -2,7 +2,7 @@
 -- 8,000 Hz. Assumes nothing.
 use Rattle.std.specs.Prelude.{ℕ, zero, suc, Bool, true, false, List, [], ◌∷◌, Float}
 use Rattle.numeric.specs.F64.{◌⊕◌, ◌⊖◌, ◌⊘◌, ◌≤ᶠ◌, one64}
-use Rattle.numeric.specs.If.{if◌then◌else◌}
+use Rattle.std.specs.Prelude.{if◌then◌else◌}
 use Rattle.modulation.specs.Bits.{next_bit, rest_bits}
 use Rattle.bell103.specs.Roles.{samples_per_symbol}
 use Rattle.modulation.specs.Nco.{nco_set_freq, nco_next}

@@ -4,7 +4,7 @@ use Rattle.std.specs.Prelude.{ℕ, zero, suc, ◌+◌, ◌-◌, Bool, true, fals
 use Rattle.std.specs.Float.{binary32}
 use Rattle.std.specs.Float.Ieee.{of_bits}
 use Rattle.numeric.specs.F64.{◌≤ᶠ◌, whole, zero64, one64}
-use Rattle.numeric.specs.If.{if◌then◌else◌}
+use Rattle.std.specs.Prelude.{if◌then◌else◌}
 use Rattle.numeric.specs.Counts.{samples_for_bits}
 use Rattle.refusal.specs.Refusals.{Reply, given, refused, first, rate_refused, dsp_rate}
 use Rattle.resampling.specs.Resample.{fresh}

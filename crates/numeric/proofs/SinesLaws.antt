@@ -2,7 +2,7 @@
 use Rattle.std.proofs.Common.{◌≡◌, Bool, true, false, ◌||◌, sym, refl, ap, ◌∙◌, true≢false, arith}
 use lib.Ieee.{Float, neg}
 use Rattle.numeric.specs.F64.{◌⊖◌, ◌<ᶠ◌, ◌≤ᶠ◌, zero64, tau, pi}
-use Rattle.numeric.specs.If.{if◌then◌else◌}
+use Rattle.std.specs.Prelude.{if◌then◌else◌}
 use Rattle.numeric.specs.Sine.{reduced, folded, series, half_turn, sine_of}
 use Rattle.numeric.proofs.SineLaws.{reduced-stop, reduced-more}
 use Rattle.numeric.specs.Sines.{wrapped, lowered, signed, beyond, within_turn}

@@ -4,7 +4,7 @@
 use Rattle.std.specs.Prelude.{ℕ, Bool, false, pos, from_bits, to_bits, Float}
 use Rattle.std.specs.Float.{nan, inf, fin, binary64}
 use Rattle.std.specs.Float.Ieee.{of_int, add, sub, mul, div, lt, le, eq}
-use Rattle.numeric.specs.If.{if◌then◌else◌}
+use Rattle.std.specs.Prelude.{if◌then◌else◌}
 
 infixl 65 ◌⊕◌ ◌⊖◌
 infixl 70 ◌⊗◌ ◌⊘◌

@@ -3,7 +3,7 @@
 use Rattle.std.specs.Prelude.{ℕ, ◌+◌, ◌-◌, ◌*◌, ◌/◌, ◌%◌, ◌^◌, min, Bool, not, ◌&&◌, is_nan, nat_le, nat_lt, Float}
 use Rattle.std.specs.Float.Ieee.Nearest.{closest}
 use Rattle.numeric.specs.F64.{bits}
-use Rattle.numeric.specs.If.{if◌then◌else◌}
+use Rattle.std.specs.Prelude.{if◌then◌else◌}
 
 -- the upper digits of the pattern, to the nearest, at a tie to the even. From 2 ^ -126 on the exponent's fields differ by 896 and 29
 -- digits go; below that the leading digit is written out, and more digits go the smaller the number is; below 2 ^ -151 all go.

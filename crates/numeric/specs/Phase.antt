@@ -1,7 +1,7 @@
 -- The phase of a tone, from sample to sample (nco.rs). Assumes nothing.
 use Rattle.std.specs.Prelude.{Float}
 use Rattle.numeric.specs.F64.{◌⊕◌, ◌⊖◌, ◌⊗◌, ◌⊘◌, ◌≤ᶠ◌, tau}
-use Rattle.numeric.specs.If.{if◌then◌else◌}
+use Rattle.std.specs.Prelude.{if◌then◌else◌}
 
 -- the phase step of one sample: TAU × freq / sample_rate
 abbrev pub step_of : Float → Float → Float

@@ -1,7 +1,7 @@
 -- Document 01's root, in the place of the library's `hypot`. Assumes nothing.
 use Rattle.std.specs.Prelude.{ℕ, zero, suc, ◌+◌, ◌/◌, Float}
 use Rattle.numeric.specs.F64.{◌⊕◌, ◌⊗◌, ◌⊘◌, ◌=ᶠ◌, f64, bits, zero64, half64}
-use Rattle.numeric.specs.If.{if◌then◌else◌}
+use Rattle.std.specs.Prelude.{if◌then◌else◌}
 
 -- "v = a × a + b × b"
 abbrev pub squares : Float → Float → Float

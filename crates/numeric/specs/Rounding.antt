@@ -3,7 +3,7 @@ use Rattle.std.specs.Prelude.{ℕ, zero, ◌+◌, ◌-◌, ◌*◌, ◌/◌, ◌
 use Rattle.std.specs.Float.{nan, inf, fin}
 use Rattle.std.specs.Float.Ieee.{up, down, round}
 use Rattle.numeric.specs.F64.{whole}
-use Rattle.numeric.specs.If.{if◌then◌else◌}
+use Rattle.std.specs.Prelude.{if◌then◌else◌}
 
 -- round(x) as usize. "Round: half away from zero"; a NaN gives 0, a negative number 0, what is too large the largest usize
 unfoldable pub round_usize : Float → ℕ

@@ -2,7 +2,7 @@
 use Rattle.std.specs.Prelude.{◌≡◌, Bool, ◌||◌, Float}
 use Rattle.std.specs.Float.Ieee.{neg}
 use Rattle.numeric.specs.F64.{◌⊖◌, ◌<ᶠ◌, ◌≤ᶠ◌, zero64, tau, pi}
-use Rattle.numeric.specs.If.{if◌then◌else◌}
+use Rattle.std.specs.Prelude.{if◌then◌else◌}
 use Rattle.numeric.specs.Sine.{folded, series}
 use Rattle.numeric.specs.declared.sines.Eight.{Eight}
 

@@ -9,7 +9,7 @@
 //   counts    nearest, ceiling: rounded quotients   specs/Counts.antt
 //   ends      where a part of a slice ends
 //
-// For the definitions and proofs of other crates: specs/F64.antt writes f64 arithmetic as ⊕ ⊖ ⊗ ⊘ <ᶠ ≤ᶠ =ᶠ, specs/If.antt a choice, and
+// For the definitions and proofs of other crates: specs/F64.antt writes f64 arithmetic as ⊕ ⊖ ⊗ ⊘ <ᶠ ≤ᶠ =ᶠ, and
 // specs/Fold.antt folds; proofs/Whole.antt and proofs/BoundLaws.antt have the laws of exact whole numbers and of bounds; proofs/CountLaws.antt
 // proves that each rounded quotient is what the Rust works out in floats; proofs/Examples.antt has values worked out by the prover.
 #![tactic(auto)]

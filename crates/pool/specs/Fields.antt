@@ -1,6 +1,6 @@
 -- The fields of a line: numbers as the programs print them, so that no number is written in two ways. Assumes nothing.
 use Rattle.std.specs.Prelude.{ℕ, suc, ◌+◌, ◌-◌, ◌&&◌, ◌||◌, List, [], ◌∷◌, ltb, eqb, pos, negsuc, length, get_or, take, drop}
-use Rattle.numeric.specs.If.{if◌then◌else◌}
+use Rattle.std.specs.Prelude.{if◌then◌else◌}
 use Rattle.console.specs.Words.{up_to_most}
 use Rattle.pool.specs.declared.fields.Level.{Level}
 use Rattle.pool.specs.declared.fields.Level.TheVariants as level

@@ -1,6 +1,6 @@
 -- What a line says of a gauge, and what the text says of three. Assumes nothing.
 use Rattle.std.specs.Prelude.{ℕ, ◌+◌, ◌||◌, List, ltb, eqb, length, get_or, drop}
-use Rattle.numeric.specs.If.{if◌then◌else◌}
+use Rattle.std.specs.Prelude.{if◌then◌else◌}
 use Rattle.tide.specs.declared.judge.Shown.TheVariants as shown
 use Rattle.pool.specs.declared.fields.Level.{Level}
 use Rattle.pool.specs.declared.fields.Level.TheVariants as level

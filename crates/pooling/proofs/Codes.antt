@@ -10,7 +10,7 @@ use lib.Signed.{lt_z, mag}
 use mir.Syntax.{w16}
 use mir.Val.{to_z, of_z, SFits}
 use mir.ValLaws.{to_z-of_z}
-use Rattle.numeric.specs.If.{if◌then◌else◌}
+use Rattle.std.specs.Prelude.{if◌then◌else◌}
 use Rattle.tide.specs.Judge.{Reading, Shown}
 use Rattle.pooling.specs.Pool.{there, readings, newest, too_old, kept_of, kept, pooled, pool_of}
 

@@ -8,7 +8,7 @@ use native.Mathlib.Omega.{arith, min_cases, max_cases}
 use borrow.Author.Tests.{ltb-true, ltb-false}
 use lib.Dec.{ltb}
 use lib.IntN.{ℤ}
-use Rattle.numeric.specs.If.{if◌then◌else◌}
+use Rattle.std.specs.Prelude.{if◌then◌else◌}
 use Rattle.refusal.specs.Refusals.{Reply, given, refused}
 use Rattle.tide.specs.Judge.{Reading, Shown, none, shows}
 use Rattle.pooling.specs.Pool.{there, readings, newest, too_old, kept_of, kept, oldest, lower, higher, level_of, shown_by, pooled, pool_of}

@@ -1,7 +1,7 @@
 -- What is claimed of three gauges and of what is shown of them. Assumes nothing.
 use Rattle.std.specs.Prelude.{ℕ, ◌+◌, ◌≤◌, ◌≡◌, ◌⊎◌, ◌↔◌, List, [], ◌∷◌, ◌++◌, ℤ}
 use Rattle.std.specs.Int.Signed.{le_z}
-use Rattle.numeric.specs.If.{if◌then◌else◌}
+use Rattle.std.specs.Prelude.{if◌then◌else◌}
 use Rattle.refusal.specs.Refusals.{given, refused}
 use Rattle.tide.specs.Judge.{Reading, Shown, none}
 use Rattle.pooling.specs.Pool.{there, readings, newest, kept, pooled, pool_of}

@@ -1,7 +1,7 @@
 -- Three gauges, one level: what is shown of three readings, any of which may be missing. Assumes nothing.
 use Rattle.std.specs.Prelude.{ℕ, ◌-◌, min, max, Bool, List, [], ◌∷◌, ◌++◌, ltb, ℤ}
 use Rattle.std.specs.Int.Signed.{lt_z}
-use Rattle.numeric.specs.If.{if◌then◌else◌}
+use Rattle.std.specs.Prelude.{if◌then◌else◌}
 use Rattle.refusal.specs.Refusals.{Reply, given, refused}
 use Rattle.tide.specs.Judge.{Reading, Shown, none, shows}
 

@@ -6,7 +6,7 @@ use mathlib.Core.List.{List, [], ◌∷◌, ◌++◌}
 use native.Mathlib.Omega.{arith}
 use lib.ListN.{length, take, drop, length-append, length-take}
 use lib.Ieee.{Float}
-use Rattle.numeric.specs.If.{if◌then◌else◌}
+use Rattle.std.specs.Prelude.{if◌then◌else◌}
 use Rattle.numeric.proofs.Parts.{take_min}
 use Rattle.resampling.specs.Flow.{Filter, Flow, Ran, ran, wants, pushed, emitted, drained, fed}
 use Rattle.resampling.specs.FlowRep.{Copied}

@@ -10,7 +10,7 @@ use lib.ListN.{length, get_or, set, take, replicate, replicate-append-replicate}
 use lib.Seq.{append_snoc, length-take-le, take_all, take-suc-set}
 use lib.Ieee.{Float, nan}
 use Rattle.numeric.specs.F64.{zero64}
-use Rattle.numeric.specs.If.{if◌then◌else◌}
+use Rattle.std.specs.Prelude.{if◌then◌else◌}
 use Rattle.resampling.specs.Design.{lowpass, most_taps}
 use Rattle.resampling.specs.Resample.{taps_of, faster}
 use Rattle.resampling.specs.FilterRep.{ring_back, walk, history_of}

@@ -13,7 +13,7 @@ use lib.Ieee.{Float, nan, inf, fin, round, sub, lt, of_int, of_bits}
 use lib.Ieee.Positive.{num, den, den_pos}
 use Rattle.refusal.specs.Refusals.{dsp_rate, highest_rate}
 use Rattle.numeric.specs.F64.{◌⊕◌, ◌⊖◌, ◌⊘◌, ◌<ᶠ◌, whole, zero64, one64, two64}
-use Rattle.numeric.specs.If.{if◌then◌else◌}
+use Rattle.std.specs.Prelude.{if◌then◌else◌}
 use Rattle.numeric.proofs.Whole.{add-whole, sub-whole, lt-whole, div-whole}
 use Rattle.numeric.specs.Bounds.{non_negative, AtMost}
 use Rattle.numeric.proofs.BoundLaws.{at-most-more, add-at-most, round-at-most}

@@ -10,7 +10,7 @@ use lib.Dec.{eqb}
 use lib.ListN.{length, take, drop, length-take}
 use lib.Seq.{take_all, take-append_seam}
 use lib.Ieee.{Float}
-use Rattle.numeric.specs.If.{if◌then◌else◌}
+use Rattle.std.specs.Prelude.{if◌then◌else◌}
 use Rattle.numeric.specs.Counts.{output_len}
 use Rattle.refusal.specs.Refusals.{first, given}
 use Rattle.numeric.specs.Convert.{all_in_range}

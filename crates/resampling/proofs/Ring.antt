@@ -12,7 +12,7 @@ use lib.ListN.{length, get_or, set, take, drop, replicate, get_or-replicate, len
 use lib.Seq.{get_or-set_same, get_or-set_other, get_or-take, drop-cons, length-take-le}
 use lib.Ieee.{Float, nan}
 use Rattle.numeric.specs.F64.{◌⊕◌, ◌⊗◌, zero64}
-use Rattle.numeric.specs.If.{if◌then◌else◌}
+use Rattle.std.specs.Prelude.{if◌then◌else◌}
 use Rattle.resampling.specs.Filter.{sum_from, filtered, newest}
 use Rattle.resampling.specs.FilterRep.{ring_back, ring_next, walk, history_of, Placed, Filtered}
 

@@ -7,7 +7,7 @@ use native.Mathlib.Omega.{arith}
 use lib.ListN.{length, take, drop, length-append}
 use lib.Seq.{sets, sets-eq, length_front, length-take-le, take_at, drop_at, drop-drop}
 use lib.Ieee.{Float}
-use Rattle.numeric.specs.If.{if◌then◌else◌}
+use Rattle.std.specs.Prelude.{if◌then◌else◌}
 use Rattle.resampling.specs.Filter.{filtered, newest, filtered_all, history_after}
 use Rattle.resampling.specs.FilterRep.{history_of, AllFiltered}
 use Rattle.resampling.proofs.FilterLaws.{filtered-length, filtered-append, after-append}

@@ -9,7 +9,7 @@ use native.Mathlib.Omega.{arith}
 use lib.ListN.{length, get_or, set, take, drop, length-append, length-set, drop_of_length-le}
 use lib.Seq.{sets, length-sets, drop-cons}
 use lib.Ieee.{Float, nan}
-use Rattle.numeric.specs.If.{if◌then◌else◌}
+use Rattle.std.specs.Prelude.{if◌then◌else◌}
 use Rattle.resampling.specs.Flow.{Filter, Flow, Ran, ran, wants, windowed, pushed, out_with, emitted, drained, fed}
 use Rattle.resampling.proofs.FlowLaws.{drained-none, drained-length}
 use Rattle.resampling.specs.Filter.{filtered, newest}

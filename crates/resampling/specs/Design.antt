@@ -1,7 +1,7 @@
 -- The resampler's low-pass filter (`design_lowpass`): a sinc cut off at 3,600 Hz under a Blackman window, 62/8000 s long. Assumes nothing.
 use Rattle.std.specs.Prelude.{ℕ, ◌-◌, List, map, Float}
 use Rattle.numeric.specs.F64.{◌⊕◌, ◌⊖◌, ◌⊗◌, ◌⊘◌, ◌<ᶠ◌, f64, whole, zero64, half64, two64, tau, pi, magnitude}
-use Rattle.numeric.specs.If.{if◌then◌else◌}
+use Rattle.std.specs.Prelude.{if◌then◌else◌}
 use Rattle.numeric.specs.Sine.{sine_of, cosine_of}
 use Rattle.numeric.specs.Counts.{tap_count}
 use Rattle.numeric.specs.Fold.{fold, tabulate}

@@ -1,7 +1,7 @@
 -- How the code holds the filter's history, in a ring, and the window. Assumes nothing.
 use Rattle.std.specs.Prelude.{ℕ, zero, suc, ◌+◌, ◌-◌, ◌≤◌, ◌<◌, ◌≡◌, List, [], ◌∷◌, length, get_or, take, leb, eqb, Float}
 use Rattle.std.specs.Float.{nan}
-use Rattle.numeric.specs.If.{if◌then◌else◌}
+use Rattle.std.specs.Prelude.{if◌then◌else◌}
 use Rattle.resampling.specs.Design.{most_taps}
 use Rattle.resampling.specs.Filter.{Window, filtered, newest, filtered_all, history_after}
 use Rattle.resampling.specs.declared.filter.Two.{Two}

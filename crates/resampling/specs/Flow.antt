@@ -2,7 +2,7 @@
 -- here, newest sample first; how the code holds it stands in specs/FlowRep.antt. Assumes nothing.
 use Rattle.std.specs.Prelude.{ℕ, zero, suc, ◌-◌, ◌+◌, ◌^◌, ◌≤◌, ◌<◌, Bool, List, [], ◌∷◌, ◌++◌, length, Float, ◌≡◌}
 use Rattle.numeric.specs.F64.{◌⊕◌, ◌⊖◌, ◌<ᶠ◌, f64, zero64, one64, two64, whole}
-use Rattle.numeric.specs.If.{if◌then◌else◌}
+use Rattle.std.specs.Prelude.{if◌then◌else◌}
 use Rattle.resampling.specs.Filter.{Window, filtered, newest, hermite_at}
 use Rattle.numeric.specs.Bounds.{AtMost}
 

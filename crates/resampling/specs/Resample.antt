@@ -2,7 +2,7 @@
 -- code holds its state in specs/ResampleRep.antt. Assumes nothing.
 use Rattle.std.specs.Prelude.{ℕ, zero, suc, Bool, not, List, [], ◌++◌, length, take, drop, replicate, ltb, eqb, Float}
 use Rattle.numeric.specs.F64.{◌⊘◌, whole, zero64}
-use Rattle.numeric.specs.If.{if◌then◌else◌}
+use Rattle.std.specs.Prelude.{if◌then◌else◌}
 use Rattle.numeric.specs.Counts.{output_len}
 use Rattle.numeric.specs.Convert.{all_in_range}
 use Rattle.resampling.specs.Design.{lowpass}

@@ -1,7 +1,7 @@
 -- How the code's `Resampler` holds what specs/Resample.antt speaks of, and the invariant of its states. Assumes nothing.
 use Rattle.std.specs.Prelude.{ℕ, ◌≤◌, ◌<◌, ◌≡◌, Bool, false, List, [], length, take, ltb, eqb, Float}
 use Rattle.numeric.specs.F64.{◌⊘◌, whole}
-use Rattle.numeric.specs.If.{if◌then◌else◌}
+use Rattle.std.specs.Prelude.{if◌then◌else◌}
 use Rattle.resampling.specs.FlowRep.{flow_of}
 use Rattle.resampling.specs.Resample.{State, state, taps_of, Outcome, outcome}
 use Rattle.resampling.specs.Design.{most_taps, lowpass}

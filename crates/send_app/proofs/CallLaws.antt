@@ -1,7 +1,7 @@
 -- A fresh sender refuses nothing of what `send` asks before the text; how long a call is. Assumes nothing.
 use Rattle.std.proofs.Common.{◌≡◌, ℕ, ◌+◌, ◌*◌, Bool, true, false, List, [], ◌∷◌, ◌++◌, length, refl, ap, ◌∙◌, arith}
 use lib.Ieee.{Float}
-use Rattle.numeric.specs.If.{if◌then◌else◌}
+use Rattle.std.specs.Prelude.{if◌then◌else◌}
 use Rattle.refusal.specs.Refusals.{given, refused}
 use Rattle.framing.specs.Framing.{marks, frames_of}
 use Rattle.modulation.specs.Requests.{Request, write, idle_mark, asked}

@@ -3,7 +3,7 @@ use Rattle.std.specs.Prelude.{ℕ, ◌+◌, ◌-◌, ◌/◌, ◌%◌, List, [],
 use Rattle.std.specs.Float.{binary32}
 use Rattle.std.specs.Float.Ieee.{neg, to_unsigned}
 use Rattle.numeric.specs.F64.{◌<ᶠ◌, ◌⊗◌, f64, zero64, one64}
-use Rattle.numeric.specs.If.{if◌then◌else◌}
+use Rattle.std.specs.Prelude.{if◌then◌else◌}
 use Rattle.wav.specs.Recording.{two, four}
 use Rattle.send_app.specs.Header.{with_word}
 use Rattle.send_app.specs.declared.words.Kind.{Kind}

@@ -1,6 +1,6 @@
 -- The words of the command. Assumes nothing.
 use Rattle.std.specs.Prelude.{◌≡◌, ℕ, Bool, ◌||◌, List, [], ◌∷◌, ◌==◌, ◌≢◌}
-use Rattle.numeric.specs.If.{if◌then◌else◌}
+use Rattle.std.specs.Prelude.{if◌then◌else◌}
 use Rattle.refusal.specs.Refusals.{rate_refused}
 use Rattle.bell103.specs.declared.Role.{Role}
 use Rattle.console.specs.declared.words.Named.{Named}

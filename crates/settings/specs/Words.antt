@@ -1,6 +1,6 @@
 -- The words of the command. Assumes nothing.
 use Rattle.std.specs.Prelude.{ℕ, ◌≡◌, List, [], ◌∷◌, eqb}
-use Rattle.numeric.specs.If.{if◌then◌else◌}
+use Rattle.std.specs.Prelude.{if◌then◌else◌}
 use Rattle.console.specs.declared.words.Named.{Named}
 use Rattle.console.specs.declared.words.Named.TheVariants as named
 use Rattle.settings.specs.declared.words.Verb.{Verb}

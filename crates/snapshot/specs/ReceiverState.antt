@@ -2,7 +2,7 @@
 use Rattle.std.specs.Prelude.{ℕ, zero, suc, min, Bool, List, [], ◌∷◌, ◌++◌, ltb, length, get_or, take, drop, Float}
 use Rattle.std.specs.Float.{nan}
 use Rattle.numeric.specs.F64.{whole, zero64, one64}
-use Rattle.numeric.specs.If.{if◌then◌else◌}
+use Rattle.std.specs.Prelude.{if◌then◌else◌}
 use Rattle.refusal.specs.Refusals.{rate_refused}
 use Rattle.resampling.specs.Numbers.{tap_numbers, history_numbers, window_numbers}
 use Rattle.resampling.specs.Resample.{State}

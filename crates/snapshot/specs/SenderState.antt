@@ -1,6 +1,6 @@
 -- The sender's state behind a script of its calls. Assumes nothing.
 use Rattle.std.specs.Prelude.{ℕ, List, ◌++◌, ltb, length, drop, Float}
-use Rattle.numeric.specs.If.{if◌then◌else◌}
+use Rattle.std.specs.Prelude.{if◌then◌else◌}
 use Rattle.refusal.specs.Refusals.{Reply, given, refused}
 use Rattle.modulation.specs.Numbers.{keying_numbers, bit_numbers, pending_numbers}
 use Rattle.modulation.specs.Tx.{Sender}

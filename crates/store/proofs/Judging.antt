@@ -10,7 +10,7 @@ use borrow.Author.Tests.{ltb-false, le-leb, eq-eqb, ne_eqb}
 use Rattle.refusal.specs.Refusals.{rate_refused}
 use Rattle.hexadecimal.specs.Hex.{digit, all_hex, unhex, hex_line, total, check_of, Bytes}
 use Rattle.hexadecimal.proofs.HexLaws.{unhex-hex_line, all_hex-hex_line, length-hex_line, or-false}
-use Rattle.numeric.specs.If.{if◌then◌else◌}
+use Rattle.std.specs.Prelude.{if◌then◌else◌}
 use Rattle.bell103.specs.declared.Role.{Role}
 use Rattle.bell103.specs.declared.Role.TheVariants.{Originate, Answer}
 use Rattle.store.specs.declared.line.Settings.{Settings}

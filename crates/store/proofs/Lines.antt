@@ -9,7 +9,7 @@ use lib.ListN.{length, take, drop, length-append, length-take}
 use lib.Seq.{take-take, take-add, take_at, drop_at, drop-append-add, take-append-add, length-take-le, length_paste_head, take-length, paste}
 use native.Mathlib.Omega.{arith}
 use borrow.Author.Tests.{ne_eqb, eqb-true, eqb-false}
-use Rattle.numeric.specs.If.{if◌then◌else◌}
+use Rattle.std.specs.Prelude.{if◌then◌else◌}
 use Rattle.store.specs.Store.{store_of, lines_from, unused_from, lines_of, unused_of, first_unused, torn}
 use Rattle.store.specs.Claims.{NoEnd, NoEnds, joined, Divided}
 

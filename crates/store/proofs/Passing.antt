@@ -8,7 +8,7 @@ use lib.ListN.{length, get_or, take, drop, length-drop, drop_of_length-le}
 use lib.Seq.{take-suc, drop-cons, get_or-drop, length-take-le}
 use native.Mathlib.Numerals.{add-one}
 use native.Mathlib.Omega.{arith}
-use Rattle.numeric.specs.If.{if◌then◌else◌}
+use Rattle.std.specs.Prelude.{if◌then◌else◌}
 use Rattle.store.specs.declared.line.Judged.{Judged}
 use Rattle.store.specs.declared.line.Judged.TheVariants.{Good, UnknownVersion, Damaged}
 use Rattle.store.specs.declared.reading.Scan.{Scan}

@@ -8,7 +8,7 @@ use lib.ListN.{length, get_or, set, take, drop, length-drop, length-take, drop_o
 use lib.Seq.{split_at, drop-cons, get_or-take, paste, paste-suc, length-paste}
 use native.Mathlib.Omega.{arith}
 use borrow.Author.Tests.{eq-eqb, ne_eqb, lt-ltb, le-ltb}
-use Rattle.numeric.specs.If.{if◌then◌else◌}
+use Rattle.std.specs.Prelude.{if◌then◌else◌}
 use Rattle.refusal.specs.Refusals.{given, refused, first, rate_refused}
 use Rattle.bell103.specs.declared.Role.{Role}
 use Rattle.store.specs.Line.{line_of}

@@ -1,6 +1,6 @@
 -- A settings line, without the 0A that ends it: what it is judged to be, and the one that a writer makes. Assumes nothing.
 use Rattle.std.specs.Prelude.{ℕ, ◌+◌, ◌-◌, ◌*◌, ◌/◌, ◌%◌, Bool, not, ◌&&◌, ◌||◌, List, [], ◌∷◌, ◌++◌, leb, eqb, length, get_or}
-use Rattle.numeric.specs.If.{if◌then◌else◌}
+use Rattle.std.specs.Prelude.{if◌then◌else◌}
 use Rattle.refusal.specs.Refusals.{rate_refused}
 use Rattle.hexadecimal.specs.Hex.{all_hex, unhex, hex_line, total, check_of}
 use Rattle.bell103.specs.declared.Role.{Role}

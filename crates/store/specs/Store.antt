@@ -1,7 +1,7 @@
 -- The store: its lines, what is unused, what a read answers, and what a write does. Assumes nothing.
 use Rattle.std.specs.Prelude.{ℕ, ◌+◌, ◌-◌, List, [], ◌∷◌, ◌++◌, ltb, eqb, length, take}
 use Rattle.std.proofs.Math.Seq.{paste}
-use Rattle.numeric.specs.If.{if◌then◌else◌}
+use Rattle.std.specs.Prelude.{if◌then◌else◌}
 use Rattle.refusal.specs.Refusals.{Reply, given, refused, first, rate_refused}
 use Rattle.bell103.specs.declared.Role.{Role}
 use Rattle.store.specs.declared.line.Judged.{Judged}

@@ -1,6 +1,6 @@
 -- How the code holds what it has read. Assumes nothing.
 use Rattle.std.specs.Prelude.{ℕ, ◌+◌, ◌-◌, List, eqb, get_or, take, drop}
-use Rattle.numeric.specs.If.{if◌then◌else◌}
+use Rattle.std.specs.Prelude.{if◌then◌else◌}
 use Rattle.refusal.specs.Refusals.{Reply, given, refused, number_of}
 use Rattle.store.specs.declared.line.Judged.{Judged}
 use Rattle.store.specs.declared.reading.Found.{Found}

@@ -9,7 +9,7 @@ use borrow.Author.Tests.{ltb-false, eqb-true, eqb-false, le-ltb, eq-eqb, ne_eqb}
 use lib.IntN.{pos, negsuc, ◌-ℤ◌}
 use native.Mathlib.Nat.{zero-add}
 use Rattle.tide.specs.Judge.{Reading, Shown, settle, damage_of, Passes, of_fields, judged_of, of_line}
-use Rattle.numeric.specs.If.{if◌then◌else◌}
+use Rattle.std.specs.Prelude.{if◌then◌else◌}
 use Rattle.refusal.specs.Refusals.{first}
 use Rattle.refusal.proofs.RefusalLaws.{first-zero}
 use Rattle.hexadecimal.specs.Hex.{unhex, all_hex, total}

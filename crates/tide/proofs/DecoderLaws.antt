@@ -10,7 +10,7 @@ use lib.Seq.{get_or_at, get_or-set_same, get_or-set_other}
 use native.Mathlib.Omega.{arith}
 use native.Mathlib.Nat.{min-eq_left}
 use borrow.Author.Tests.{ltb-true, ltb-false, eqb-true, eqb-false, le-leb, ne_eqb}
-use Rattle.numeric.specs.If.{if◌then◌else◌}
+use Rattle.std.specs.Prelude.{if◌then◌else◌}
 use Rattle.refusal.specs.Refusals.{first}
 use Rattle.hexadecimal.specs.Hex.{unhex, hex_line, total}
 use Rattle.tide.specs.Frame.{reader_of, Intact, Writer, Rules, line_by}

@@ -9,7 +9,7 @@ use lib.ListN.{length, get_or, drop, length-append}
 use lib.Seq.{drop-cons}
 use native.Mathlib.Omega.{arith}
 use borrow.Author.Tests.{lt-ltb, le-ltb, ltb-true, ltb-false}
-use Rattle.numeric.specs.If.{if◌then◌else◌}
+use Rattle.std.specs.Prelude.{if◌then◌else◌}
 use Rattle.tide.specs.Frame.{station_of, stamp_of, age_of, level_of, signed, Intact, Writer, Signed16, Rules, bits_of, head_of, body_of, frame_of}
 use Rattle.hexadecimal.proofs.HexLaws.{byte_at}
 use Rattle.hexadecimal.specs.Hex.{Bytes, total, check_of}

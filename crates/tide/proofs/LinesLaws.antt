@@ -9,7 +9,7 @@ use borrow.Author.Tests.{ltb-true, ltb-false, lt-ltb, le-ltb, eqb-true}
 use lib.Dec.{ltb, eqb}
 use lib.ListN.{length, take, length-append}
 use lib.Seq.{take_all, take-append-le, length-take-le}
-use Rattle.numeric.specs.If.{if◌then◌else◌}
+use Rattle.std.specs.Prelude.{if◌then◌else◌}
 use Rattle.happenings.specs.Happening.{byte_of, bytes_in}
 use Rattle.happenings.proofs.HappeningLaws.{bytes-append}
 use Rattle.happenings.specs.declared.happening.Happening.{Happening}

@@ -8,7 +8,7 @@ use lib.Seq.{length-take-le, take-suc-set, drop-cons, drop-length}
 use native.Mathlib.Numerals.{add-one}
 use native.Mathlib.Omega.{arith}
 use borrow.Author.Tests.{lt-ltb, le-ltb, eq-eqb, ne_eqb}
-use Rattle.numeric.specs.If.{if◌then◌else◌}
+use Rattle.std.specs.Prelude.{if◌then◌else◌}
 use Rattle.hexadecimal.specs.Hex.{total}
 use Rattle.tide.specs.Judge.{Verdict, judge}
 use Rattle.tide.specs.Decoder as plain

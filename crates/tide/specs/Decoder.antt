@@ -1,6 +1,6 @@
 -- The decoder: what is heard collected into lines, the lines judged, and their answers counted; and what is claimed of many lines. Assumes nothing.
 use Rattle.std.specs.Prelude.{ℕ, ◌+◌, ◌-◌, ◌≤◌, ◌<◌, ◌≡◌, ◌⊎◌, ◌↔◌, Bool, true, false, ◌&&◌, List, [], ◌∷◌, ◌++◌, ltb, leb, eqb, length, get_or, set, take, drop, replicate}
-use Rattle.numeric.specs.If.{if◌then◌else◌}
+use Rattle.std.specs.Prelude.{if◌then◌else◌}
 use Rattle.hexadecimal.specs.Hex.{unhex, total}
 use Rattle.tide.specs.Frame.{reader_of, Writer, Rules, line_by}
 use Rattle.tide.specs.Judge.{Reading, reading_of, Shown, none, shows, Verdict, judge, of_line, Passes}

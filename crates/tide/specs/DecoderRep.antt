@@ -1,6 +1,6 @@
 -- How the code holds what specs/Decoder.antt speaks of, the invariant of its states, and what each call does. Assumes nothing.
 use Rattle.std.specs.Prelude.{ℕ, ◌+◌, ◌≤◌, min, ◌≡◌, Bool, true, false, List, [], ◌∷◌, length, take, set}
-use Rattle.numeric.specs.If.{if◌then◌else◌}
+use Rattle.std.specs.Prelude.{if◌then◌else◌}
 use Rattle.hexadecimal.specs.Hex.{total}
 use Rattle.happenings.specs.Happening.{bytes_in}
 use Rattle.happenings.specs.declared.happening.Happening.{Happening}

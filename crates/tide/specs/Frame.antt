@@ -1,6 +1,6 @@
 -- A tide line's frame: its fields, when it is intact, and the frame that a writer makes. Assumes nothing.
 use Rattle.std.specs.Prelude.{ℕ, ◌+◌, ◌-◌, ◌*◌, ◌/◌, ◌%◌, ◌≤◌, ◌<◌, ◌≡◌, Bool, not, ◌&&◌, ◌||◌, List, [], ◌∷◌, ◌++◌, ltb, eqb, ℤ, pos, negsuc, length, get_or}
-use Rattle.numeric.specs.If.{if◌then◌else◌}
+use Rattle.std.specs.Prelude.{if◌then◌else◌}
 use Rattle.hexadecimal.specs.Hex.{hex_line, total, check_of, Bytes}
 
 -- ---- the fields; "Wide fields come high byte first"

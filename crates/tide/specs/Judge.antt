@@ -1,6 +1,6 @@
 -- What a line is judged to be: the numbers 11 to 20 and 34, and the reading that it leaves. Assumes nothing.
 use Rattle.std.specs.Prelude.{ℕ, ◌%◌, ◌≤◌, ◌≡◌, ◌⊎◌, Bool, true, false, not, ◌||◌, List, ltb, eqb, ℤ, length}
-use Rattle.numeric.specs.If.{if◌then◌else◌}
+use Rattle.std.specs.Prelude.{if◌then◌else◌}
 use Rattle.refusal.specs.Refusals.{first}
 use Rattle.hexadecimal.specs.Hex.{all_hex, unhex, total, hex_line}
 use Rattle.tide.specs.Frame.{version_of, reader_of, said_length, station_of, stamp_of, age_of, level_of, signed, missing, water_of, misfit, Intact}

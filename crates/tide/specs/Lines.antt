@@ -1,7 +1,7 @@
 -- The lines of what is heard by themselves, with no decoder that collects them: what stands between one 0A and the next is a line, unless the
 -- carrier was lost in it. Assumes nothing.
 use Rattle.std.specs.Prelude.{ℕ, ◌≡◌, ◌⊎◌, Bool, true, false, List, [], ◌∷◌, ◌++◌, ltb, eqb, length, take}
-use Rattle.numeric.specs.If.{if◌then◌else◌}
+use Rattle.std.specs.Prelude.{if◌then◌else◌}
 use Rattle.happenings.specs.Happening.{bytes_in}
 use Rattle.happenings.specs.declared.happening.Happening.{Happening}
 use Rattle.happenings.specs.declared.happening.Happening.TheVariants.{Byte, BadStop, Lost, Up, Down}

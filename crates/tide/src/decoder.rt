@@ -1,6 +1,6 @@
 // The decoder: the unended line, whether what comes is skipped, the reading and the counts, and what is heard does to them.
 ghost use Rattle.std.specs.Prelude.{◌≡◌, ◌+◌, ◌<◌, min, length, set};
-ghost use Rattle.numeric.specs.If.{if◌then◌else◌};
+ghost use Rattle.std.specs.Prelude.{if◌then◌else◌};
 ghost use Rattle.happenings.specs.Happening.{happenings_of};
 ghost use Rattle.happenings.specs.declared.happening.Happening.TheVariants.{Byte};
 ghost use Rattle.tide.specs.Decoder.{IsAnswer, place, count_of, bump, longer, ends, grows, loses, resumes, stays, move_of};

@@ -8,7 +8,7 @@ use native.Mathlib.Omega.{arith}
 use borrow.Author.Tests.{lt-ltb, le-ltb, eq-eqb, ne_eqb, eqb-true, eqb-false}
 use lib.Dec.{eqb, lit<}
 use lib.ListN.{length, length-append}
-use Rattle.numeric.specs.If.{if◌then◌else◌}
+use Rattle.std.specs.Prelude.{if◌then◌else◌}
 use Rattle.refusal.specs.Refusals.{rate_refused}
 use Rattle.wav.specs.Sample.{sample_of, bytes_in, upper_of, sample_in}
 use Rattle.wav.specs.Wav.{riff, wave, fmt, data', fresh_wav, raw_wav, raw16_wav, step, moved, words, framed, counting, going, fixed, skip, padded, named, format_size, settle_as, settle, shape_word, data_size, next_frame, over_others, sampled, done, add_byte, finish_frame, finish_of}

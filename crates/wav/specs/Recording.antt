@@ -1,6 +1,6 @@
 -- What a recording is, from its writer's side, and what a reader tells of it. Assumes nothing.
 use Rattle.std.specs.Prelude.{ℕ, ◌+◌, ◌*◌, ◌/◌, ◌%◌, ◌≤◌, ◌<◌, ◌≡◌, false, List, [], ◌∷◌, ◌++◌, eqb, length}
-use Rattle.numeric.specs.If.{if◌then◌else◌}
+use Rattle.std.specs.Prelude.{if◌then◌else◌}
 use Rattle.refusal.specs.Refusals.{rate_refused}
 use Rattle.wav.specs.Sample.{sample_of, bytes_in}
 use Rattle.wav.specs.Wav.{fmt, data', add_byte, finish_of}

@@ -4,7 +4,7 @@ use Rattle.std.specs.Int.Bits.{bit_xor}
 use Rattle.std.specs.Float.{binary32, binary64}
 use Rattle.std.specs.Float.Ieee.{of_bits, round, neg}
 use Rattle.numeric.specs.Convert.{narrowed}
-use Rattle.numeric.specs.If.{if◌then◌else◌}
+use Rattle.std.specs.Prelude.{if◌then◌else◌}
 use Rattle.wav.specs.declared.sample.Encoding.{Encoding}
 use Rattle.wav.specs.declared.sample.Encoding.TheVariants as coding
 

@@ -2,7 +2,7 @@
 -- bytes, with one more behind an odd number. The chunk "fmt " gives the encoding, the chunk "data" the frames, each one sample for each
 -- channel. Numbers have their low byte first; a name is read as a number of four bytes too. Assumes nothing.
 use Rattle.std.specs.Prelude.{ℕ, ◌+◌, ◌-◌, ◌*◌, ◌/◌, ◌%◌, Bool, true, false, ltb, eqb}
-use Rattle.numeric.specs.If.{if◌then◌else◌}
+use Rattle.std.specs.Prelude.{if◌then◌else◌}
 use Rattle.refusal.specs.Refusals.{rate_refused}
 use Rattle.wav.specs.Sample.{bytes_in, sample_in}
 use Rattle.wav.specs.Words.{shifted, last_four, encoding_of, is_endless}

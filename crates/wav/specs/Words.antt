@@ -1,6 +1,6 @@
 -- What the words of a header say. Assumes nothing.
 use Rattle.std.specs.Prelude.{ℕ, ◌+◌, ◌*◌, ◌/◌, Bool, ◌||◌, leb, eqb}
-use Rattle.numeric.specs.If.{if◌then◌else◌}
+use Rattle.std.specs.Prelude.{if◌then◌else◌}
 use Rattle.wav.specs.declared.sample.Encoding.TheVariants as coding
 use Rattle.wav.specs.declared.words.Known.{Known}
 use Rattle.wav.specs.declared.words.Known.TheVariants as known
