@@ -24,11 +24,17 @@ returns-then-kind-eq-AMPLITUDE c =
 pub returns-then-kind-eq-READ : goal.returns-then-kind-eq-READ
 returns-then-kind-eq-READ c =
     let w = c.read-g.ensures in
-    let k = c in record { part_after = from-reading _ _ _ _ _ _ _ _ w.0 c.number_in.ensures c.unless_refused.ensures
-          ∙ sym (reads _ _ _ _ _ k.if-kind-eq-WRITE.false k.if-kind-eq-IDLE_MARK.false k.if-kind-eq-AMPLITUDE.false k.if-kind-eq-READ.true); tx_sound = w.1 }
+    let k = c in record {
+      part_after = from-reading _ _ _ _ _ _ _ _ w.0 c.number_in.ensures c.unless_refused.ensures
+          ∙ sym (reads _ _ _ _ _ k.if-kind-eq-WRITE.false k.if-kind-eq-IDLE_MARK.false k.if-kind-eq-AMPLITUDE.false k.if-kind-eq-READ.true);
+      tx_sound = w.1;
+    }
 
 pub returns : goal.returns
 returns c =
     let w = c.samples_for_bits in
-    let s = c in record { part_after = from-duration _ _ s.args.tx _ _ _ w.ensures c.numbers_of-t.ensures
-          ∙ sym (lasts _ _ _ _ _ c.if-kind-eq-WRITE.false c.if-kind-eq-IDLE_MARK.false c.if-kind-eq-AMPLITUDE.false c.if-kind-eq-READ.false); tx_sound = s.requires }
+    let s = c in record {
+      part_after = from-duration _ _ s.args.tx _ _ _ w.ensures c.numbers_of-t.ensures
+          ∙ sym (lasts _ _ _ _ _ c.if-kind-eq-WRITE.false c.if-kind-eq-IDLE_MARK.false c.if-kind-eq-AMPLITUDE.false c.if-kind-eq-READ.false);
+      tx_sound = s.requires;
+    }

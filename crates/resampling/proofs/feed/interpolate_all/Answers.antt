@@ -23,9 +23,12 @@ returns-then-moving c =
     let l = c.loop-i in
     let s = c.slide.ensures in
     let d = c.drain-d.ensures in
-    let t = c.loop-i-test.true in record { all_interpolated = λ n taps ring.
+    let t = c.loop-i-test.true in record {
+      all_interpolated = λ n taps ring.
           let e = interpolated-turn (take n taps) _ _ _ _ _ l.invariant.2 _ _ (flow_of n ring l.moving) _ (s.by_index n ring) (d.all_drained n taps ring) in
-          sym (fed-halt _ _ _ _ _ _ _ t (drained-from _ _ _ _ _ _ _ refl e) c.if-moving.true) ∙ l.invariant.0 n taps ring; at_in_bounds = drain-within _ _ _ _ _ (d.all_drained 0 [] []) l.invariant.2 }
+          sym (fed-halt _ _ _ _ _ _ _ t (drained-from _ _ _ _ _ _ _ refl e) c.if-moving.true) ∙ l.invariant.0 n taps ring;
+      at_in_bounds = drain-within _ _ _ _ _ (d.all_drained 0 [] []) l.invariant.2;
+    }
 
 pub loop-i-preserved : goal.loop-i-preserved
 unfolding wants flow_of through_filter

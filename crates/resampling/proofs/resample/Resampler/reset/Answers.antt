@@ -16,7 +16,9 @@ returns c =
     let s = c in
     let p = s.requires in
     let r = s.args.self in
-    let z = c.zeros-hist.ensures in record { result_value = rw z (fresh-is r.src_rate r.dst_rate r.n_taps r.taps p.high p.taps_long p.taps); sound = record {
+    let z = c.zeros-hist.ensures in record {
+      result_value = rw z (fresh-is r.src_rate r.dst_rate r.n_taps r.taps p.high p.taps_long p.taps);
+      sound = record {
         rates = p.rates;
         identity = p.identity;
         decimating = p.decimating;
@@ -26,4 +28,5 @@ returns c =
         taps_long = p.taps_long;
         ring_long = ap length z ∙ length-replicate most_taps zero64;
         place = λ e. lt_of_le_of_lt zero-le (p.place e);
-      } }
+      };
+    }

@@ -27,7 +27,9 @@ returns c =
     let s = c in
     let p = s.requires in
     let r = s.args.self in
-    let f = c.feed-d in record { output_after = ran-into (state_of r) _ _ _ _ (filter-is r p) (sym p.identity ∙ c.if-self.false) f.ensures.all_fed; sound = record {
+    let f = c.feed-d in record {
+      output_after = ran-into (state_of r) _ _ _ _ (filter-is r p) (sym p.identity ∙ c.if-self.false) f.ensures.all_fed;
+      sound = record {
         rates = p.rates;
         identity = p.identity;
         decimating = p.decimating;
@@ -37,4 +39,5 @@ returns c =
         taps_long = p.taps_long;
         ring_long = f.ensures.placed.ring_long;
         place = λ _. f.ensures.placed.within;
-      } }
+      };
+    }
