@@ -1,5 +1,5 @@
 // With the feature `port`: links the port's static library, which
-// `rt staticlib ffi` writes to ../target/staticlib/libffi.a, or the one that
+// `.ci/build ffi` writes to ../target/staticlib/libffi.a, or the one that
 // MORKHETTA_LIB names. That may be a shared one, which is looked for again when
 // the program starts (`slips.sh`).
 
@@ -13,7 +13,7 @@ fn main() {
     let library = library();
     assert!(
         library.is_file(),
-        "{}: not there (run `rt staticlib ffi`, or set MORKHETTA_LIB)",
+        "{}: not there (run `.ci/build ffi`, or set MORKHETTA_LIB)",
         library.display()
     );
     println!("cargo:rerun-if-changed={}", library.display());

@@ -3,7 +3,7 @@
 # same recording, in turns, each to its end. The recording is two calls of half an
 # hour, 4,000 tide lines in all, sent by the program `send`; both must hear every one.
 # usage: listen.sh [RATE [TURNS]]     48000 and 3 otherwise
-# Needs the Debian packages minimodem and sox, and `rt check send listen` run before.
+# Needs the Debian packages minimodem and sox, and `.ci/build send listen` run before.
 cd "$(dirname "$0")" || exit 2
 rate=${1:-48000} turns=${2:-3}
 send=../target/bin/send listen=../target/bin/listen

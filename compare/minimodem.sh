@@ -6,7 +6,7 @@
 # table, and minimodem must hear it, behind the training character and the line end
 # of a call.
 # Needs the Debian packages minimodem, sox and xxd, cargo, and in the root
-# `rt check replay send` and `rt staticlib ffi` run before. Takes about a minute;
+# `.ci/build replay send ffi` run before. Takes about a minute;
 # minimodem sends its idle carrier in real time.
 cd "$(dirname "$0")" || exit 2
 replay=../target/bin/replay send=../target/bin/send

@@ -1,5 +1,5 @@
 /* The quay board's modem for hosts in C: the functions of the static library
- * libffi.a (`rt staticlib ffi`).
+ * libffi.a (`.ci/build ffi`).
  *
  * Each function runs a whole list of calls from a fresh state and keeps nothing
  * afterwards. What it answers, and all memory that it is lent, are proved equal

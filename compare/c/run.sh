@@ -1,5 +1,5 @@
 #!/bin/sh
-# Builds hear_wav.c over the port's static library (`rt staticlib ffi`), has it
+# Builds hear_wav.c over the port's static library (`.ci/build ffi`), has it
 # hear line.wav, and compares what it prints with line.out; then gives it words
 # that it must not take. MORKHETTA_LIB may name another library, with a path seen
 # from the folder above.
