@@ -12,28 +12,28 @@ const LONGEST: u64 = 1048576;
 const MOST_LENGTHS: usize = 1000;
 
 // So many whole samples, and three-hundredths of one.
-#[derive(Drop)]
+#[derive(Clone, Copy)]
 pub struct Duration {
     pub quotient: u64,
     pub remainder: u64,
 }
 
 // How many samples some bits last, exactly and to the nearest.
-#[derive(Drop)]
+#[derive(Clone, Copy)]
 pub struct Measure {
     pub exact: Duration,
     pub rounded: u64,
 }
 
 // What `exact` answers.
-#[derive(Drop)]
+#[derive(Clone, Copy)]
 pub enum Measured {
     Given(Measure),
     Refused(Refusal),
 }
 
 // What `exact_sum` answers.
-#[derive(Drop)]
+#[derive(Clone, Copy)]
 pub enum Summed {
     Given(Duration),
     Refused(Refusal),

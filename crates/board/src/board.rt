@@ -23,14 +23,14 @@ pub struct Board {
 }
 
 // What `new` answers, and the board; refused 1 it gives the one at 8,000, refused 2 the one of station 0.
-#[derive(Drop)]
+#[derive(Clone, Copy)]
 pub struct Created {
     pub state: Board,
     pub answer: Acceptance,
 }
 
 // Of an accepted write: bytes heard, lines ended, the last one's answer, 0 also when none ended, and bad stops.
-#[derive(Drop)]
+#[derive(Clone, Copy)]
 pub struct Summary {
     pub bytes: u64,
     pub lines: u64,
@@ -39,13 +39,13 @@ pub struct Summary {
 }
 
 // What `write` answers: why it is refused, or its summary.
-#[derive(Drop)]
+#[derive(Clone, Copy)]
 pub enum Answer {
     Refused(Refusal),
     Heard(Summary),
 }
 
-#[derive(Drop)]
+#[derive(Clone, Copy)]
 pub struct Written {
     pub state: Board,
     pub answer: Answer,

@@ -5,7 +5,7 @@ ghost use Rattle.board.specs.Runs.{width, put_at};
 // How many numbers an answer has.
 pub const WIDTH: usize = 5;
 
-#[derive(Drop)]
+#[derive(Clone, Copy)]
 pub struct Numbers {
     pub number: u32,
     pub bytes: u64,

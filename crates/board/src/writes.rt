@@ -10,7 +10,7 @@ use numeric::ends::part_end;
 use refusal::Acceptance;
 
 // What `listen` answers: `new`'s answer, how many writes it ran, and the board after them.
-#[derive(Drop)]
+#[derive(Clone, Copy)]
 pub struct Listened {
     pub state: Board,
     pub answer: Acceptance,
@@ -39,7 +39,7 @@ fn numbers_of(answer: Answer) -> Numbers
 }
 
 // Where a list of writes stands: the board, and how many of the samples are behind it.
-#[derive(Drop)]
+#[derive(Clone, Copy)]
 struct Place {
     board: Board,
     read: usize,

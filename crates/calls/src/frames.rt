@@ -47,7 +47,7 @@ pub fn frame_bytes(bytes: &[u8], bits: &mut [u8]) -> usize
 // ---- deframing
 
 // What a bit completed: 1 and the byte, 0 where it waits, 2 at a bad stop.
-#[derive(Drop)]
+#[derive(Clone, Copy)]
 struct Yielded {
     kind: u8,
     byte: u8,

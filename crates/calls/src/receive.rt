@@ -12,7 +12,7 @@ use numeric::ends::{part_end, smaller};
 use refusal::Acceptance;
 
 // How many events were taken, and the receiver.
-#[derive(Drop)]
+#[derive(Clone, Copy)]
 struct TakenEvents {
     state: Rx,
     count: usize,
@@ -39,7 +39,7 @@ fn take_events(rx: Rx, buf: &mut [u8]) -> TakenEvents
 }
 
 // A call's answer, and the receiver.
-#[derive(Drop)]
+#[derive(Clone, Copy)]
 pub struct Called {
     pub state: Rx,
     pub answer: Heard,
@@ -71,7 +71,7 @@ pub fn make_call(rx: Rx, samples: &[f32], bytes: &mut [u8], events: &mut [u8]) -
 }
 
 // Where a list of calls stands: the receiver, and how much of the samples, the bytes and the events is behind it.
-#[derive(Drop)]
+#[derive(Clone, Copy)]
 struct Place {
     state: Rx,
     read: usize,
@@ -80,7 +80,7 @@ struct Place {
 }
 
 // A script's three numbers for a call: samples in the write, bytes to read at most, events to take at most.
-#[derive(Drop)]
+#[derive(Clone, Copy)]
 pub struct Call {
     pub samples: u32,
     pub bytes: u32,

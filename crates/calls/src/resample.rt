@@ -55,7 +55,7 @@ pub fn lengths_from_fresh(src: u32, dst: u32, lengths: &[u32], answers: &mut [u6
 const PROCESS: u32 = 0;
 
 // A call's answer, and the resampler.
-#[derive(Drop)]
+#[derive(Clone, Copy)]
 struct Called {
     answer: Counted,
     state: Resampler,
@@ -87,7 +87,7 @@ fn make_call(r: Resampler, kind: u32, input: &[f64], output: &mut [f64]) -> Call
 }
 
 // Where a list of calls stands: the resampler, and how much of input and output is behind it.
-#[derive(Drop)]
+#[derive(Clone, Copy)]
 struct Place {
     state: Resampler,
     read: usize,
@@ -175,7 +175,7 @@ pub fn calls_from_fresh(
 // ---- a script of both
 
 // How many calls were run, and the resampler behind them.
-#[derive(Drop)]
+#[derive(Clone, Copy)]
 struct Ended {
     calls: usize,
     state: Resampler,
@@ -216,7 +216,7 @@ fn all_scripted(
 }
 
 // What `new` answers; how many calls were run, and the resampler behind them.
-#[derive(Drop)]
+#[derive(Clone, Copy)]
 pub struct Scripted {
     pub answer: Acceptance,
     pub calls: usize,

@@ -25,7 +25,7 @@ const AMPLITUDE: u64 = 2;
 const READ: u64 = 3;
 
 // What a call answers: its refusal, 0 where it is accepted, and its value; and the sender.
-#[derive(Drop)]
+#[derive(Clone, Copy)]
 struct Called {
     state: Tx,
     number: u32,
@@ -134,7 +134,7 @@ pub(crate) fn tell_sent(answers: &mut [u64], at: usize, number: u32, value: usiz
 }
 
 // Where a list of calls stands: the sender, and how much of the data and of the samples is behind it.
-#[derive(Drop)]
+#[derive(Clone, Copy)]
 struct Place {
     state: Tx,
     read: usize,
@@ -173,7 +173,7 @@ fn one_call(
 }
 
 // How many calls were run, and the sender behind them.
-#[derive(Drop)]
+#[derive(Clone, Copy)]
 struct Ended {
     calls: usize,
     state: Tx,
@@ -208,7 +208,7 @@ fn all_calls(tx: Tx, data: &[u8], script: &[u64], samples: &mut [f32], answers: 
 }
 
 // What `new` answers; how many calls were run, and the sender behind them.
-#[derive(Drop)]
+#[derive(Clone, Copy)]
 pub struct Sent {
     pub answer: Acceptance,
     pub calls: usize,

@@ -20,7 +20,7 @@ fn level_bits(level: i16) -> u64
 }
 
 // What a board shows: whether it shows a reading, 1 or 0; its water minute; the sixteen bits of its level.
-#[derive(Drop)]
+#[derive(Clone, Copy)]
 struct ShownNumbers {
     shown: u64,
     water: u64,

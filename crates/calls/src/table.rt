@@ -21,7 +21,7 @@ const WRITE: u64 = 0;
 const IDLE_MARK: u64 = 1;
 
 // What a call answers: its refusal, 0 where it is accepted, and its value; and the sender.
-#[derive(Drop)]
+#[derive(Clone, Copy)]
 struct TableCalled {
     state: TableTx,
     number: u32,
@@ -70,7 +70,7 @@ fn make_table_call(tx: TableTx, kind: u64, n: u64, bytes: &[u8], part: &mut [i32
 }
 
 // Where a list of calls stands: the sender, and how much of the data and of the samples is behind it.
-#[derive(Drop)]
+#[derive(Clone, Copy)]
 struct TablePlace {
     state: TableTx,
     read: usize,

@@ -7,7 +7,7 @@ use crate::text::one_more;
 use std::io::Read;
 
 // What is known of a line that is not ended.
-#[derive(Drop)]
+#[derive(Clone, Copy)]
 pub enum Line {
     // Nothing of it was read.
     Blank,
@@ -18,14 +18,14 @@ pub enum Line {
 }
 
 // How many lines were ended (the count holds at the most that it can say), and the line behind them.
-#[derive(Drop)]
+#[derive(Clone, Copy)]
 struct Numbers {
     count: u64,
     line: Line,
 }
 
 // What the input says.
-#[derive(Drop)]
+#[derive(Clone, Copy)]
 pub enum Input {
     // So many numbers.
     Numbers(u64),
@@ -126,7 +126,7 @@ fn after_chars(t: Numbers, s: &[u8], out: &mut [u64]) -> Numbers
 }
 
 // The numbers after a read, whether there is reason to read on, and whether the read failed.
-#[derive(Drop)]
+#[derive(Clone, Copy)]
 struct Turn {
     numbers: Numbers,
     more: bool,

@@ -8,7 +8,7 @@ use std::io::Read;
 use tide::{Decoder, Reading, Shown};
 
 // The decoder, how many lines it has judged (the count holds at the most that it can say), and whether all answers so far were written.
-#[derive(Drop)]
+#[derive(Clone, Copy)]
 pub struct Text {
     pub decoder: Decoder,
     pub lines: u64,
@@ -162,7 +162,7 @@ fn after_block(t: Text, s: &[u8]) -> Text
 }
 
 // The text after a read, whether there is reason to read on, and whether the read failed.
-#[derive(Drop)]
+#[derive(Clone, Copy)]
 struct Turn {
     text: Text,
     more: bool,

@@ -6,7 +6,7 @@ use bell103::Role;
 use std::env::{Env, FillError};
 
 // What a word for the role says.
-#[derive(Drop)]
+#[derive(Clone, Copy)]
 pub enum Named {
     Role(Role),
     Unknown,

@@ -125,7 +125,7 @@ pub(crate) fn next_sums(
 }
 
 // The soft decision, positive for mark; and the energy, which the difference throws away.
-#[derive(Drop)]
+#[derive(Clone, Copy)]
 pub struct Decision {
     pub soft: f64,
     pub energy: f64,

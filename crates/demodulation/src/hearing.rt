@@ -94,7 +94,7 @@ fn put_step(
 }
 
 // The demodulator after samples, and how much happened.
-#[derive(Drop)]
+#[derive(Clone, Copy)]
 pub struct HeardAll {
     pub state: Demodulator,
     pub count: usize,

@@ -6,7 +6,7 @@ ghost use Rattle.demodulation.specs.Selftest.{rise_of, block_says};
 pub use crate::carrier::Verdict;
 use crate::carrier::{CarrierDetector, ToneDominance};
 
-#[derive(Drop)]
+#[derive(Clone, Copy)]
 pub enum Rise {
     At(u32),
     Never,

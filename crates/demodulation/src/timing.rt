@@ -21,7 +21,7 @@ pub struct Timing {
 }
 
 // The timing after a sample, and whether the sample ended a symbol.
-#[derive(Drop)]
+#[derive(Clone, Copy)]
 pub struct Ticked {
     pub state: Timing,
     pub boundary: bool,

@@ -8,7 +8,7 @@ use numeric::sine::QUARTER;
 use numeric::sines::sines;
 
 // The mark's cosine and sine, and the space's.
-#[derive(Drop)]
+#[derive(Clone, Copy)]
 pub struct Quadrature {
     pub mark_i: f64,
     pub mark_q: f64,

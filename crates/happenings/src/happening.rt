@@ -56,7 +56,7 @@ fn one_bad_stop(h: Happening) -> usize
 }
 
 // How many bytes and how many bad stops there are.
-#[derive(Drop)]
+#[derive(Clone, Copy)]
 pub struct Tally {
     pub bytes: usize,
     pub bad_stops: usize,

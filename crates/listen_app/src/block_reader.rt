@@ -28,7 +28,7 @@ pub struct BlockReader {
 }
 
 // The reader once it has something to act on, and how far it has read.
-#[derive(Drop)]
+#[derive(Clone, Copy)]
 pub struct Heard {
     pub(crate) reader: BlockReader,
     pub(crate) at: usize,

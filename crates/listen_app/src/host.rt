@@ -30,14 +30,14 @@ pub struct Host {
 }
 
 // A host after a write, and the number that refused the write, or 0.
-#[derive(Drop)]
+#[derive(Clone, Copy)]
 pub struct Attempt {
     host: Host,
     number: u32,
 }
 
 // The number of lines, and whether they were told.
-#[derive(Drop)]
+#[derive(Clone, Copy)]
 struct Told {
     lines: u64,
     told: bool,

@@ -16,7 +16,7 @@ use std::io::Read;
 use wav::{End, Fault, Wav};
 
 // The host, the reader of the recording's bytes, and the block that its samples fill.
-#[derive(Drop)]
+#[derive(Clone, Copy)]
 struct Session {
     host: Host,
     reader: BlockReader,
@@ -61,7 +61,7 @@ fn hear_part(s: Session, input: &[u8]) -> Session
 }
 
 // The session after a read, whether there is reason to read on, and whether the read failed.
-#[derive(Drop)]
+#[derive(Clone, Copy)]
 struct Turn {
     session: Session,
     more: bool,
@@ -143,7 +143,7 @@ fn no_samples() -> [f32; BLOCK]
 }
 
 // The host that heard all that there is, how the recording ended, and whether a read failed.
-#[derive(Drop)]
+#[derive(Clone, Copy)]
 pub struct Closed {
     host: Host,
     end: End,
@@ -192,7 +192,7 @@ pub fn hear_pcm<R: Read>(input: &mut R, station: u16, role: Role, rate: u32) -> 
 }
 
 // What is to be said at the end.
-#[derive(Drop)]
+#[derive(Clone, Copy)]
 pub enum Outcome {
     // Something could not be written, or not be read.
     Unwritten,

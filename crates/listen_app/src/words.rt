@@ -8,7 +8,7 @@ use refusal::rate_ok;
 use std::env::Env;
 
 // Which word is wrong.
-#[derive(Drop)]
+#[derive(Clone, Copy)]
 pub enum Unclear {
     Count,
     Station,
@@ -17,7 +17,7 @@ pub enum Unclear {
     Format,
 }
 
-#[derive(Drop)]
+#[derive(Clone, Copy)]
 pub enum Request {
     Recording { station: u16, role: Role },
     Floats { station: u16, role: Role, rate: u32 },

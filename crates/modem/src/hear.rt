@@ -18,7 +18,7 @@ fn zeros_1024() -> [f64; 1024] {
 }
 
 // The resampler after a call's samples, and how many it made of them.
-#[derive(Drop)]
+#[derive(Clone, Copy)]
 pub struct Resampled {
     pub state: Resampler,
     pub count: usize,

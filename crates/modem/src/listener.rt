@@ -22,21 +22,21 @@ pub struct Listener {
 }
 
 // What `new` answers, and the state; refused, it gives the one at 8,000.
-#[derive(Drop)]
+#[derive(Clone, Copy)]
 pub struct Opened {
     pub state: Listener,
     pub answer: Acceptance,
 }
 
 // The state after samples that no check refuses, and how much happened.
-#[derive(Drop)]
+#[derive(Clone, Copy)]
 pub struct Took {
     pub state: Listener,
     pub count: usize,
 }
 
 // What `hear` answers, the state, and how much happened.
-#[derive(Drop)]
+#[derive(Clone, Copy)]
 pub struct Listened {
     pub state: Listener,
     pub answer: Acceptance,

@@ -16,7 +16,7 @@ pub struct Bytes {
 }
 
 // What draining left, and how many bytes it gave.
-#[derive(Drop)]
+#[derive(Clone, Copy)]
 pub struct Drained {
     pub state: Bytes,
     pub count: usize,
@@ -111,7 +111,7 @@ pub struct Events {
 }
 
 // The oldest event, and the queue after it.
-#[derive(Drop)]
+#[derive(Clone, Copy)]
 pub struct NextEvent {
     pub state: Events,
     pub event: Event,

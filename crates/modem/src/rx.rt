@@ -29,28 +29,28 @@ pub struct Rx {
 }
 
 // What `new` answers, and the state; refused, it gives the one at 8,000.
-#[derive(Drop)]
+#[derive(Clone, Copy)]
 pub struct Created {
     pub state: Rx,
     pub answer: Acceptance,
 }
 
 // What `write` answers, and the state: why it is refused, or how many bad stops there are in it.
-#[derive(Drop)]
+#[derive(Clone, Copy)]
 pub struct Written {
     pub state: Rx,
     pub answer: Counted,
 }
 
 // How many bytes were read, and the state.
-#[derive(Drop)]
+#[derive(Clone, Copy)]
 pub struct ReadBytes {
     pub state: Rx,
     pub count: usize,
 }
 
 // The oldest event, and the state.
-#[derive(Drop)]
+#[derive(Clone, Copy)]
 pub struct TakenEvent {
     pub state: Rx,
     pub event: Event,

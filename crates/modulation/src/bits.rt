@@ -53,7 +53,7 @@ fn place_behind(head: usize, waiting: usize) -> usize
 }
 
 // The next bit to send, and where the others then stand.
-#[derive(Drop)]
+#[derive(Clone, Copy)]
 pub struct Taken {
     pub bit: bool,
     pub head: usize,
@@ -142,7 +142,7 @@ pub(crate) fn push_frames(
 // ---- what a caller queues
 
 // The answer, and how many bits wait then.
-#[derive(Drop)]
+#[derive(Clone, Copy)]
 pub struct Asked {
     pub answer: Acceptance,
     pub waiting: usize,

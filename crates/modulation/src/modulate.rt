@@ -64,7 +64,7 @@ fn next_symbol(
     }
 }
 
-#[derive(Drop)]
+#[derive(Clone, Copy)]
 struct Ticked {
     value: f64,
     wave: Wave,
@@ -107,7 +107,7 @@ fn step(bits: &[bool; 4096], t: TonePair, w: Wave) -> Ticked
     Ticked { value, wave }
 }
 
-#[derive(Drop)]
+#[derive(Clone, Copy)]
 struct TickedEight {
     first: f64,
     second: f64,
@@ -288,7 +288,7 @@ fn room_for(k: usize, rate: u32) -> usize
     nearest((k as u64) * (rate as u64), DSP_RATE as u64) as usize + 2
 }
 
-#[derive(Drop)]
+#[derive(Clone, Copy)]
 struct Made {
     count: usize,
     wave: Wave,
@@ -326,7 +326,7 @@ pub struct Settings {
 }
 
 // How many samples a pass wrote, how many are pending after it, and what moved.
-#[derive(Drop)]
+#[derive(Clone, Copy)]
 pub struct Passed {
     pub count: usize,
     pub upto: usize,

@@ -14,7 +14,7 @@ pub struct Nco {
 }
 
 // One sample's value, and the oscillator after it.
-#[derive(Drop)]
+#[derive(Clone, Copy)]
 pub struct Tone {
     pub state: Nco,
     pub value: f64,

@@ -9,7 +9,7 @@ use crate::tx::Tx;
 use refusal::Acceptance;
 
 // The answer, and the sender after it.
-#[derive(Drop)]
+#[derive(Clone, Copy)]
 pub struct Queueing {
     pub state: Tx,
     pub answer: Acceptance,

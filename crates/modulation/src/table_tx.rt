@@ -130,14 +130,14 @@ fn fill(bits: &[bool; 4096], h: Hops, k: Keying, out: &mut [i32]) -> Keying
 }
 
 // What a request answers, and the sender after it.
-#[derive(Drop)]
+#[derive(Clone, Copy)]
 pub struct TableQueueing {
     pub state: TableTx,
     pub answer: Acceptance,
 }
 
 // What `read` answers, and the sender after it.
-#[derive(Drop)]
+#[derive(Clone, Copy)]
 pub struct TableReading {
     pub state: TableTx,
     pub answer: Acceptance,

@@ -38,7 +38,7 @@ pub struct Tx {
 // ---- a whole slice
 
 // What `read` answers, in how many passes, and the state.
-#[derive(Drop)]
+#[derive(Clone, Copy)]
 pub struct Reading {
     pub state: Tx,
     pub answer: Acceptance,
@@ -46,7 +46,7 @@ pub struct Reading {
 }
 
 // What a slice at 8,000 moves of the sender, and in how many passes it was filled.
-#[derive(Drop)]
+#[derive(Clone, Copy)]
 pub struct Filled {
     pub wave: Wave,
     pub from: usize,
@@ -189,14 +189,14 @@ fn fill_rising(t: Tx, out: &mut [f32]) -> Reading
 // ---- the public functions
 
 // What `new` answers, and the state; refused, it gives the one at 8,000.
-#[derive(Drop)]
+#[derive(Clone, Copy)]
 pub struct Created {
     pub state: Tx,
     pub answer: Acceptance,
 }
 
 // What `set_amplitude` answers, and the state.
-#[derive(Drop)]
+#[derive(Clone, Copy)]
 pub struct Adjusted {
     pub state: Tx,
     pub answer: Acceptance,

@@ -80,7 +80,7 @@ pub fn narrow(x: f64) -> f32
 
 // ---- four f32s
 
-#[derive(Drop)]
+#[derive(Clone, Copy)]
 pub struct FourNarrowed {
     pub first: f32,
     pub second: f32,

@@ -33,7 +33,7 @@ pub fn root(a: f64, b: f64) -> f64
 }
 
 // Two roots.
-#[derive(Drop)]
+#[derive(Clone, Copy)]
 pub struct RootPair {
     pub first: f64,
     pub second: f64,

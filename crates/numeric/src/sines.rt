@@ -6,13 +6,13 @@ ghost use Rattle.numeric.specs.Sines.{wrapped, lowered, signed, beyond, within_t
 
 use crate::sine::{PI, TAU, fold, sine};
 
-#[derive(Drop)]
+#[derive(Clone, Copy)]
 pub struct Pair {
     pub first: f64,
     pub second: f64,
 }
 
-#[derive(Drop)]
+#[derive(Clone, Copy)]
 pub struct Four {
     pub first: f64,
     pub second: f64,
@@ -20,7 +20,7 @@ pub struct Four {
     pub fourth: f64,
 }
 
-#[derive(Drop)]
+#[derive(Clone, Copy)]
 pub struct Eight {
     pub first: f64,
     pub second: f64,

@@ -10,7 +10,7 @@ use refusal::Refusal;
 use tide::{Reading, Shown};
 
 // What three gauges say together.
-#[derive(Drop)]
+#[derive(Clone, Copy)]
 pub enum Pooled {
     Given(Reading),
     Refused(Refusal),

@@ -9,7 +9,7 @@ use crate::sample::{Moving, emit, push_ahead, push_known, push_one, slide};
 use numeric::ends::smaller;
 
 // How much of the output is written, and what moved.
-#[derive(Drop)]
+#[derive(Clone, Copy)]
 pub struct Drained {
     pub at: usize,
     pub moving: Moving,

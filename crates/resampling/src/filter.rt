@@ -37,7 +37,7 @@ fn fir_sum(taps: &[f64; MAX_TAPS], hist: &[f64; MAX_TAPS], n: usize, pos: usize)
 }
 
 // The filter's output for a sample, and for the one after it.
-#[derive(Drop)]
+#[derive(Clone, Copy)]
 pub struct Two {
     pub first: f64,
     pub second: f64,

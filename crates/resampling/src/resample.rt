@@ -28,21 +28,21 @@ pub struct Resampler {
 }
 
 // What `new` answers, and the state; refused, it gives the one at equal rates of 8,000.
-#[derive(Drop)]
+#[derive(Clone, Copy)]
 pub struct Created {
     pub answer: Acceptance,
     pub state: Resampler,
 }
 
 // How many samples were written, and the state.
-#[derive(Drop)]
+#[derive(Clone, Copy)]
 pub struct Produced {
     pub count: usize,
     pub state: Resampler,
 }
 
 // The same, or the refusal.
-#[derive(Drop)]
+#[derive(Clone, Copy)]
 pub struct Processed {
     pub answer: Counted,
     pub state: Resampler,
@@ -56,7 +56,7 @@ fn faster_of(a: u32, b: u32) -> u32
 }
 
 // The taps between two rates, and their number: none where they are equal.
-#[derive(Drop)]
+#[derive(Clone, Copy)]
 struct Taps {
     n: usize,
     taps: [f64; MAX_TAPS],

@@ -53,7 +53,7 @@ pub fn push_one(
 }
 
 // What moved, and the filter's output for the sample after.
-#[derive(Drop)]
+#[derive(Clone, Copy)]
 pub struct Pushed {
     pub moving: Moving,
     pub ahead: f64,
@@ -97,7 +97,7 @@ pub fn push_known(hist: &mut [f64; MAX_TAPS], n: usize, m: Moving, x: f64, y: f6
 }
 
 // An output sample, and what moved.
-#[derive(Drop)]
+#[derive(Clone, Copy)]
 pub struct Emitted {
     pub y: f64,
     pub moving: Moving,

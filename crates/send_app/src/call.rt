@@ -50,7 +50,7 @@ fn opened(tx: Tx) -> Tx
 }
 
 // The sender, how many bytes of the text are queued, and whether all was written.
-#[derive(Drop)]
+#[derive(Clone, Copy)]
 struct Sending {
     tx: Tx,
     at: usize,
@@ -141,7 +141,7 @@ pub fn block_of(left: usize) -> usize
 }
 
 // How many samples were sent, and whether all of them were written.
-#[derive(Drop)]
+#[derive(Clone, Copy)]
 pub struct Ended {
     pub sent: usize,
     pub well: bool,

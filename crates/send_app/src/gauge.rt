@@ -35,7 +35,7 @@ fn opened_table(tx: TableTx) -> TableTx
 }
 
 // The sender, how many bytes of the text are queued, and whether all was written.
-#[derive(Drop)]
+#[derive(Clone, Copy)]
 struct TableSending {
     tx: TableTx,
     at: usize,

@@ -15,14 +15,14 @@ pub enum Kind {
 }
 
 // Where the samples come from: a sine in floats, at a rate, written so; or the table, at 8,000.
-#[derive(Drop)]
+#[derive(Clone, Copy)]
 pub enum Source {
     Sine { rate: u16, kind: Kind },
     Table,
 }
 
 // What the third word says of it.
-#[derive(Drop)]
+#[derive(Clone, Copy)]
 pub enum Third {
     Kind(Kind),
     Table,
@@ -30,7 +30,7 @@ pub enum Third {
 }
 
 // Which word is wrong.
-#[derive(Drop)]
+#[derive(Clone, Copy)]
 pub enum Unclear {
     Count,
     Role,
@@ -39,7 +39,7 @@ pub enum Unclear {
     TableRate,
 }
 
-#[derive(Drop)]
+#[derive(Clone, Copy)]
 pub enum Request {
     Call { role: Role, source: Source },
     Unclear(Unclear),

@@ -16,7 +16,7 @@ use resampling::{MAX_TAPS, Resampler};
 // ---- the script
 
 // Where a script stands: the receiver, and how many samples are behind it.
-#[derive(Drop)]
+#[derive(Clone, Copy)]
 struct Spot {
     state: Rx,
     read: usize,

@@ -9,7 +9,7 @@ use hexadecimal::{Digits, byte, sum, test_digits};
 use refusal::rate_ok;
 
 // What a dealer sets before casting.
-#[derive(Drop)]
+#[derive(Clone, Copy)]
 pub struct Settings {
     pub rate: u32,
     pub station: u16,
@@ -17,7 +17,7 @@ pub struct Settings {
 }
 
 // What a line is judged to be.
-#[derive(Drop)]
+#[derive(Clone, Copy)]
 pub enum Judged {
     Good(Settings),
     UnknownVersion,

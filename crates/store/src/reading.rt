@@ -8,28 +8,28 @@ use crate::line::{Judged, Settings, judge};
 use refusal::Refusal;
 
 // The settings of the last good line, and how many lines of unknown version were passed over.
-#[derive(Drop)]
+#[derive(Clone, Copy)]
 pub struct Found {
     pub settings: Settings,
     pub unknown: usize,
 }
 
 // What a read answers.
-#[derive(Drop)]
+#[derive(Clone, Copy)]
 pub enum Stored {
     Given(Found),
     Refused(Refusal),
 }
 
 // The settings of the last good line so far.
-#[derive(Drop)]
+#[derive(Clone, Copy)]
 pub enum Latest {
     None,
     Good(Settings),
 }
 
 // What the bytes so far say, and where the line that is not ended began.
-#[derive(Drop)]
+#[derive(Clone, Copy)]
 pub struct Scan {
     start: usize,
     latest: Latest,

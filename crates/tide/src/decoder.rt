@@ -32,7 +32,7 @@ pub struct Decoder {
 }
 
 // What a happening did: whether it ended a line, and that line's answer.
-#[derive(Drop)]
+#[derive(Clone, Copy)]
 pub struct Step {
     pub decoder: Decoder,
     pub ended: bool,
@@ -40,7 +40,7 @@ pub struct Step {
 }
 
 // What was heard did: how many lines it ended, and the last one's answer.
-#[derive(Drop)]
+#[derive(Clone, Copy)]
 pub struct Fed {
     pub decoder: Decoder,
     pub lines: u64,

@@ -24,7 +24,7 @@ pub enum Shown {
 }
 
 // A line's answer, and what is shown after it.
-#[derive(Drop)]
+#[derive(Clone, Copy)]
 pub struct Judged {
     pub answer: u8,
     pub reading: Shown,

@@ -86,7 +86,7 @@ pub struct Wav {
 }
 
 // What a byte completes: nothing, the header with its rate, a sample; or why the recording is not read.
-#[derive(Drop)]
+#[derive(Clone, Copy)]
 pub enum Out {
     Going,
     Start(u32),
@@ -95,14 +95,14 @@ pub enum Out {
 }
 
 // The reader after a byte, and what the byte completes.
-#[derive(Drop)]
+#[derive(Clone, Copy)]
 pub struct Step {
     pub state: Wav,
     pub out: Out,
 }
 
 // What the end of the file means.
-#[derive(Drop)]
+#[derive(Clone, Copy)]
 pub enum End {
     Whole,
     Bad(Fault),

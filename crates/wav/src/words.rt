@@ -5,7 +5,7 @@ ghost use Rattle.wav.specs.Words.{shifted, last_four, pcm_known, float_known, on
 use crate::sample::Encoding;
 
 // Whether samples of an encoding are read.
-#[derive(Drop)]
+#[derive(Clone, Copy)]
 pub enum Known {
     As(Encoding),
     Not,
