@@ -37,8 +37,7 @@ fn lay_month(out: &mut [i64], month: Month)
 }
 
 // The charge of one call, and 0; or 1 or 45.
-#[unsafe(no_mangle)]
-pub extern "C" fn morkhetta_call_charge(rate: u32, samples: u64, charge: &mut [u64]) -> u32
+pub fn morkhetta_call_charge(rate: u32, samples: u64, charge: &mut [u64]) -> u32
     ensures value { result ≡ number_in (charge_of rate samples) }
     ensures charge_after { charge.new ≡ call_after (charge_of rate samples) charge.old }
 {
@@ -53,8 +52,7 @@ pub extern "C" fn morkhetta_call_charge(rate: u32, samples: u64, charge: &mut [u
 }
 
 // The charge of a month's calls, and 0; or 1, 44 or 45.
-#[unsafe(no_mangle)]
-pub extern "C" fn morkhetta_month_charge(rate: u32, calls: &[u64], charge: &mut [i64]) -> u32
+pub fn morkhetta_month_charge(rate: u32, calls: &[u64], charge: &mut [i64]) -> u32
     ensures value { result ≡ number_in (month_charge_of rate calls.now) }
     ensures charge_after { charge.new ≡ month_after (month_charge_of rate calls.now) charge.old }
 {

@@ -5,8 +5,7 @@ ghost use Rattle.ffi.specs.Digits.{test_run};
 use hexadecimal::{Digits, test_digits};
 
 // The place of the first character that is no digit, counted from 0; how many there are, where all are digits.
-#[unsafe(no_mangle)]
-pub extern "C" fn morkhetta_test_digits(characters: &[u8]) -> usize
+pub fn morkhetta_test_digits(characters: &[u8]) -> usize
     ensures { result ≡ test_run characters.now }
 {
     let answer = test_digits(characters);

@@ -30,8 +30,7 @@ fn lay_duration(out: &mut [u64], d: Duration)
 }
 
 // How many samples n bits last at a rate, and 0; or 1 or 7.
-#[unsafe(no_mangle)]
-pub extern "C" fn morkhetta_exact(rate: u32, n: u64, out: &mut [u64]) -> u32
+pub fn morkhetta_exact(rate: u32, n: u64, out: &mut [u64]) -> u32
     ensures { told result out.new ≡ exact_run rate n out.old }
 {
     let answer = exact(rate, n);
@@ -45,8 +44,7 @@ pub extern "C" fn morkhetta_exact(rate: u32, n: u64, out: &mut [u64]) -> u32
 }
 
 // How many samples a list of lengths lasts at a rate, and 0; or 1, 42 or 7.
-#[unsafe(no_mangle)]
-pub extern "C" fn morkhetta_exact_sum(rate: u32, lengths: &[u64], out: &mut [u64]) -> u32
+pub fn morkhetta_exact_sum(rate: u32, lengths: &[u64], out: &mut [u64]) -> u32
     ensures { told result out.new ≡ sum_run rate lengths.now out.old }
 {
     let answer = exact_sum(rate, lengths);

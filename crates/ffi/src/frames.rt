@@ -5,15 +5,13 @@ ghost use Rattle.calls.specs.Resample.{ran};
 
 use calls::{deframe_bits, frame_bytes};
 
-#[unsafe(no_mangle)]
-pub extern "C" fn morkhetta_frame_bytes(bytes: &[u8], bits: &mut [u8]) -> usize
+pub fn morkhetta_frame_bytes(bytes: &[u8], bits: &mut [u8]) -> usize
     ensures { ran result [] bits.new ≡ frames_run bytes.now bits.old }
 {
     frame_bytes(bytes, bits)
 }
 
-#[unsafe(no_mangle)]
-pub extern "C" fn morkhetta_deframe(
+pub fn morkhetta_deframe(
     in_frame: u32,
     bit_count: u32,
     acc: u32,

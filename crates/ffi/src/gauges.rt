@@ -28,8 +28,7 @@ fn lay(out: &mut [i64], reading: Reading)
 }
 
 // What three gauges show together, and 0; or 46.
-#[unsafe(no_mangle)]
-pub extern "C" fn morkhetta_pool(
+pub fn morkhetta_pool(
     water1: u32,
     level1: i16,
     water2: u32,

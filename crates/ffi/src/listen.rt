@@ -8,8 +8,7 @@ use calls::{number_in, put_board, role_of};
 use refusal::rate_ok;
 
 // Why a board of this rate and station is refused: 1, 2, or 0 where it is not.
-#[unsafe(no_mangle)]
-pub extern "C" fn morkhetta_board_refusal(rate: u32, station: u16) -> u32
+pub fn morkhetta_board_refusal(rate: u32, station: u16) -> u32
     ensures { result ≡ new_number rate station }
 {
     if !rate_ok(rate) {
@@ -22,8 +21,7 @@ pub extern "C" fn morkhetta_board_refusal(rate: u32, station: u16) -> u32
 }
 
 // A fresh board and one write for each length, and what the board shows after them.
-#[unsafe(no_mangle)]
-pub extern "C" fn morkhetta_listen(
+pub fn morkhetta_listen(
     rate: u32,
     station: u16,
     role: u32,

@@ -6,8 +6,7 @@ ghost use Rattle.snapshot.specs.ReceiverState.{shown, state_run};
 use calls::received_from_fresh;
 use snapshot::state_from_fresh;
 
-#[unsafe(no_mangle)]
-pub extern "C" fn morkhetta_receive(
+pub fn morkhetta_receive(
     rate: u32,
     role: u32,
     samples: &[f32],
@@ -22,8 +21,7 @@ pub extern "C" fn morkhetta_receive(
     received_from_fresh(rate, role, samples, script, bytes, events, answers)
 }
 
-#[unsafe(no_mangle)]
-pub extern "C" fn morkhetta_receiver_state(
+pub fn morkhetta_receiver_state(
     rate: u32,
     role: u32,
     samples: &[f32],

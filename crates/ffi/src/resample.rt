@@ -6,20 +6,13 @@ ghost use Rattle.snapshot.specs.ResamplerState.{traced, resampler_run};
 use calls::{calls_from_fresh, lengths_from_fresh};
 use snapshot::resampler_from_fresh;
 
-#[unsafe(no_mangle)]
-pub extern "C" fn morkhetta_max_output_len(
-    src: u32,
-    dst: u32,
-    lengths: &[u32],
-    answers: &mut [u64],
-) -> usize
+pub fn morkhetta_max_output_len(src: u32, dst: u32, lengths: &[u32], answers: &mut [u64]) -> usize
     ensures { ran result [] answers.new ≡ lengths_run src dst lengths.now answers.old }
 {
     lengths_from_fresh(src, dst, lengths, answers)
 }
 
-#[unsafe(no_mangle)]
-pub extern "C" fn morkhetta_resample(
+pub fn morkhetta_resample(
     src: u32,
     dst: u32,
     input: &[f64],
@@ -33,8 +26,7 @@ pub extern "C" fn morkhetta_resample(
     calls_from_fresh(src, dst, input, lengths, output, answers)
 }
 
-#[unsafe(no_mangle)]
-pub extern "C" fn morkhetta_resampler_state(
+pub fn morkhetta_resampler_state(
     src: u32,
     dst: u32,
     input: &[f64],

@@ -9,8 +9,7 @@ ghost use Rattle.snapshot.specs.SenderState.{sender_state_run};
 use calls::{sent_from_fresh, table_sent_from_fresh};
 use snapshot::sender_state_from_fresh;
 
-#[unsafe(no_mangle)]
-pub extern "C" fn morkhetta_send(
+pub fn morkhetta_send(
     rate: u32,
     role: u32,
     data: &[u8],
@@ -24,8 +23,7 @@ pub extern "C" fn morkhetta_send(
     sent_from_fresh(rate, role, data, script, samples, answers)
 }
 
-#[unsafe(no_mangle)]
-pub extern "C" fn morkhetta_sender_state(
+pub fn morkhetta_sender_state(
     rate: u32,
     role: u32,
     data: &[u8],
@@ -40,8 +38,7 @@ pub extern "C" fn morkhetta_sender_state(
     sender_state_from_fresh(rate, role, data, script, samples, answers, state)
 }
 
-#[unsafe(no_mangle)]
-pub extern "C" fn morkhetta_table_send(
+pub fn morkhetta_table_send(
     role: u32,
     data: &[u8],
     script: &[u64],

@@ -36,8 +36,7 @@ fn lay(out: &mut [u64], found: Found)
 }
 
 // The settings that count in a store, and 0; or 40.
-#[unsafe(no_mangle)]
-pub extern "C" fn morkhetta_settings_read(buffer: &[u8], settings: &mut [u64]) -> u32
+pub fn morkhetta_settings_read(buffer: &[u8], settings: &mut [u64]) -> u32
     ensures { told result settings.new ≡ read_run buffer.now settings.old }
 {
     let answer = store::read(buffer);
@@ -51,13 +50,7 @@ pub extern "C" fn morkhetta_settings_read(buffer: &[u8], settings: &mut [u64]) -
 }
 
 // Writes settings into a store: 0, or 1, 2 or 41 where that is refused.
-#[unsafe(no_mangle)]
-pub extern "C" fn morkhetta_settings_write(
-    buffer: &mut [u8],
-    rate: u32,
-    station: u16,
-    role: u32,
-) -> u32
+pub fn morkhetta_settings_write(buffer: &mut [u8], rate: u32, station: u16, role: u32) -> u32
     ensures value { result ≡ number_in (write_of buffer.old rate station (role_of role)).answer }
     ensures buffer_after { buffer.new ≡ (write_of buffer.old rate station (role_of role)).buffer }
 {

@@ -1,0 +1,11 @@
+// The digit test, exported to C.
+ghost use Rattle.std.specs.Prelude.{◌≡◌};
+ghost use Rattle.ffi.specs.Digits.{test_run};
+
+// The place of the first character that is no digit, counted from 0; how many there are, where all are digits.
+#[unsafe(no_mangle)]
+pub extern "C" fn morkhetta_test_digits(characters: &[u8]) -> usize
+    ensures { result ≡ test_run characters.now }
+{
+    ffi::digits::morkhetta_test_digits(characters)
+}

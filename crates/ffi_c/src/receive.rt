@@ -1,0 +1,33 @@
+// The receiver, exported to C.
+ghost use Rattle.std.specs.Prelude.{◌≡◌};
+ghost use Rattle.calls.specs.Receive.{ran, receive_run};
+ghost use Rattle.snapshot.specs.ReceiverState.{shown, state_run};
+
+#[unsafe(no_mangle)]
+pub extern "C" fn morkhetta_receive(
+    rate: u32,
+    role: u32,
+    samples: &[f32],
+    script: &[u32],
+    bytes: &mut [u8],
+    events: &mut [u8],
+    answers: &mut [u64],
+) -> usize
+    ensures { ran result bytes.new events.new answers.new
+        ≡ receive_run rate role samples.now script.now bytes.old events.old answers.old }
+{
+    ffi::receive::morkhetta_receive(rate, role, samples, script, bytes, events, answers)
+}
+
+#[unsafe(no_mangle)]
+pub extern "C" fn morkhetta_receiver_state(
+    rate: u32,
+    role: u32,
+    samples: &[f32],
+    script: &[u32],
+    state: &mut [f64],
+) -> u32
+    ensures { shown result state.new ≡ state_run rate role samples.now script.now state.old }
+{
+    ffi::receive::morkhetta_receiver_state(rate, role, samples, script, state)
+}
