@@ -1,16 +1,16 @@
 -- What the code of durations goes by: its sums fit, each length is looked at, and what each answer promises. Assumes nothing.
+use Rattle.std.specs.Prelude.{Ok, Err}
 use Prim.Native.Nat.{ℕ, zero, suc, ◌+◌, ◌*◌, ◌<◌, ◌≤◌}
 use mathlib.Core.Path.{◌≡◌, refl, sym, ap, ◌∙◌}
 use mathlib.Core.Bool.{Bool, true, false, ◌||◌, true≢false}
 use mathlib.Core.List.{List, [], ◌∷◌}
 use native.Mathlib.Nat.{mul-le-mul}
-use native.Mathlib.Numerals.{add-one}
 use native.Mathlib.Omega.{arith}
 use lib.Dec.{ltb}
-use lib.ListN.{length, get_or, drop, drop_of_length-le}
-use lib.Seq.{drop-cons}
-use borrow.Author.Tests.{ltb-false, lt-ltb, le-ltb}
+use lib.ListN.{length, get_or, drop}
+use borrow.Author.Tests.{ltb-false, le-ltb}
 use Rattle.numeric.specs.Fold.{fold}
+use Rattle.numeric.specs.Limits.{any_above}
 use Rattle.numeric.specs.Counts.{samples_for_bits}
 use Rattle.numeric.proofs.Loops.{fold_step, fold_end}
 use Rattle.refusal.specs.Refusals.{given, refused, number_of, highest_rate, rate_refused}
@@ -18,8 +18,6 @@ use Rattle.refusal.specs.declared.Refusal.{Refusal}
 use Rattle.bell103.specs.Durations.{longest, most_lengths, exact_of, measure_of, exact_reply, joined, with_bits, carried, total_bits, any_too_long, sum_reply, Measures, Sums}
 use Rattle.bell103.specs.declared.durations.Duration.{Duration}
 use Rattle.bell103.specs.declared.durations.Measure.{Measure}
-use Rattle.bell103.specs.declared.durations.Measured.TheVariants as measured
-use Rattle.bell103.specs.declared.durations.Summed.TheVariants as summed
 use Rattle.bell103.proofs.DurationLaws.{rest_below, rounded-nearest, carried-whole}
 
 neither : (a b : Bool) → (a || b) ≡ false → (a ≡ false) × (b ≡ false)
@@ -56,29 +54,22 @@ none-too-long [] i e h = absurd (omega arith)
 none-too-long (n ∷ ns) zero e h = ltb-false longest n (neither (ltb longest n) (any_too_long ns) e).0
 none-too-long (n ∷ ns) (suc i) e h = none-too-long ns i (neither (ltb longest n) (any_too_long ns) e).1 (omega arith)
 
--- one that is too long is found, and the others are passed
-pub too-long-here : (ns : List ℕ) (i : ℕ) → i < length ns → longest < get_or ns i 0 → any_too_long (drop i ns) ≡ true
-unfolding any_too_long
-too-long-here ns i h l = rw (drop-cons ns i 0 h, lt-ltb longest (get_or ns i 0) l) refl
-
-pub too-long-past : (ns : List ℕ) (i : ℕ) → i < length ns → get_or ns i 0 ≤ longest → any_too_long (drop i ns) ≡ any_too_long (drop (i + 1) ns)
-unfolding any_too_long
-too-long-past ns i h l = rw (add-one i, drop-cons ns i 0 h, le-ltb longest (get_or ns i 0) l) refl
-
-pub too-long-end : (ns : List ℕ) (i : ℕ) → length ns ≤ i → any_too_long (drop i ns) ≡ false
-unfolding any_too_long
-too-long-end ns i h = rw (drop_of_length-le ns h) refl
+-- one that is too long is one above the longest
+pub too-long : (ns : List ℕ) → any_above longest ns ≡ any_too_long ns
+unfolding any_above any_too_long
+too-long [] = refl
+too-long (n ∷ ns) = ap (λ (t : Bool). ltb longest n || t) (too-long ns)
 
 -- ---- the answers
 unlike : {A : Type 0} (k : ℕ) (x : A) → refused k ≡ given x → ⊥
 unlike k x e = let z : ◌≡◌ {A = ℕ} 0 1 = cc in omega arith
 
-pub measures-none : (rate n : ℕ) (why : Refusal) → refused (number_of why) ≡ exact_reply rate n → Measures rate n (measured.Refused why)
-measures-none rate n why e =
+pub measures_none : (rate n : ℕ) (why : Refusal) → refused (number_of why) ≡ exact_reply rate n → Measures rate n (Err why)
+measures_none rate n why e =
     record { reply = e; below = λ m h. absurd (unlike (number_of why) m h); nearest = λ m h. absurd (unlike (number_of why) m h) }
 
 pub measures : (rate n : ℕ) (d : Duration) (k : ℕ) → d ≡ exact_of rate n → k ≡ samples_for_bits n rate → rate_refused rate ≡ false → n ≤ longest
-    → Measures rate n (measured.Given (record { exact = d; rounded = k }))
+    → Measures rate n (Ok (record { exact = d; rounded = k }))
 unfolding exact_reply
 measures rate n d k e f r h =
     record {
@@ -90,11 +81,11 @@ measures rate n d k e f r h =
     same : (m : Measure) → given (record { exact = d; rounded = k }) ≡ given m → m ≡ measure_of rate n
     same m g = cc
 
-pub sums_none : (rate : ℕ) (ns : List ℕ) (why : Refusal) → refused (number_of why) ≡ sum_reply rate ns → Sums rate ns (summed.Refused why)
+pub sums_none : (rate : ℕ) (ns : List ℕ) (why : Refusal) → refused (number_of why) ≡ sum_reply rate ns → Sums rate ns (Err why)
 sums_none rate ns why e =
     record { reply = e; whole = λ d h. absurd (unlike (number_of why) d h); below = λ d h. absurd (unlike (number_of why) d h) }
 
-pub sums : (rate : ℕ) (ns : List ℕ) (d : Duration) → d ≡ carried rate ns → rate_refused rate ≡ false → length ns ≤ most_lengths → any_too_long ns ≡ false → Sums rate ns (summed.Given d)
+pub sums : (rate : ℕ) (ns : List ℕ) (d : Duration) → d ≡ carried rate ns → rate_refused rate ≡ false → length ns ≤ most_lengths → any_too_long ns ≡ false → Sums rate ns (Ok d)
 unfolding sum_reply
 sums rate ns d e r h l =
     record {

@@ -1,16 +1,13 @@
 -- How many samples bits last, without drift (request K7). Assumes nothing.
-use Rattle.std.specs.Prelude.{ℕ, ◌+◌, ◌*◌, ◌/◌, ◌%◌, ◌<◌, ◌≤◌, ◌≡◌, Bool, false, ◌||◌, List, [], ◌∷◌, ltb, length}
+use Rattle.refusal.specs.declared.Refusal.{Refusal}
+use Rattle.std.specs.Prelude.{ℕ, ◌+◌, ◌*◌, ◌/◌, ◌%◌, ◌<◌, ◌≤◌, ◌≡◌, Bool, false, ◌||◌, List, [], ◌∷◌, ltb, length, Result}
 use Rattle.std.specs.Prelude.{if◌then◌else◌}
 use Rattle.numeric.specs.Fold.{fold}
 use Rattle.numeric.specs.Counts.{samples_for_bits}
-use Rattle.refusal.specs.Refusals.{Reply, given, refused, number_of, rate_refused}
+use Rattle.refusal.specs.Refusals.{Reply, given, refused, number_of, rate_refused, reply_in}
 use Rattle.bell103.specs.Roles.{baud}
 use Rattle.bell103.specs.declared.durations.Duration.{Duration}
 use Rattle.bell103.specs.declared.durations.Measure.{Measure}
-use Rattle.bell103.specs.declared.durations.Measured.{Measured}
-use Rattle.bell103.specs.declared.durations.Measured.TheVariants as measured
-use Rattle.bell103.specs.declared.durations.Summed.{Summed}
-use Rattle.bell103.specs.declared.durations.Summed.TheVariants as summed
 
 -- "for n ≤ 1,048,576"
 abbrev pub longest : ℕ
@@ -94,23 +91,15 @@ pub record Drift (rate : ℕ) (lengths : List ℕ) : Type 0 where
   pub below : 2 * parts (carried rate lengths) ≤ 2 * (rounded_sum rate lengths * baud) + length lengths * baud
 
 -- ---- what each case of an answer gives
-abbrev pub measured_of : Measured → Reply Measure
-measured_of (measured.Given m) = given m
-measured_of (measured.Refused r) = refused (number_of r)
-
-abbrev pub summed_of : Summed → Reply Duration
-summed_of (summed.Given d) = given d
-summed_of (summed.Refused r) = refused (number_of r)
-
 -- ---- what is promised
 -- of `exact`: the reply; the remainder is below 300, and the rounded answer is the nearest
-pub record Measures (rate n : ℕ) (r : Measured) : Type 0 where
-  pub reply : measured_of r ≡ exact_reply rate n
-  pub below : (m : Measure) → measured_of r ≡ given m → m.exact.remainder < baud
-  pub nearest : (m : Measure) → measured_of r ≡ given m → Nearest m.exact m.rounded
+pub record Measures (rate n : ℕ) (r : Result Measure Refusal) : Type 0 where
+  pub reply : reply_in r ≡ exact_reply rate n
+  pub below : (m : Measure) → reply_in r ≡ given m → m.exact.remainder < baud
+  pub nearest : (m : Measure) → reply_in r ≡ given m → Nearest m.exact m.rounded
 
 -- of `exact_sum`: the reply; "That sum equals the quotient and remainder of the total", and the remainder is below 300
-pub record Sums (rate : ℕ) (lengths : List ℕ) (r : Summed) : Type 0 where
-  pub reply : summed_of r ≡ sum_reply rate lengths
-  pub whole : (d : Duration) → summed_of r ≡ given d → d ≡ exact_of rate (total_bits lengths)
-  pub below : (d : Duration) → summed_of r ≡ given d → d.remainder < baud
+pub record Sums (rate : ℕ) (lengths : List ℕ) (r : Result Duration Refusal) : Type 0 where
+  pub reply : reply_in r ≡ sum_reply rate lengths
+  pub whole : (d : Duration) → reply_in r ≡ given d → d ≡ exact_of rate (total_bits lengths)
+  pub below : (d : Duration) → reply_in r ≡ given d → d.remainder < baud

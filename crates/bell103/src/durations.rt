@@ -4,7 +4,8 @@ ghost use Rattle.bell103.specs.Durations.{longest, most_lengths, exact_of, any_t
 
 use crate::BAUD;
 use numeric::counts::nearest;
-use refusal::{Refusal, rate_ok};
+use numeric::limits::any_above;
+use refusal::{Refusal, check_rate};
 
 // The longest that is counted, in bits, and the most lengths that are summed.
 const LONGEST: u64 = 1048576;
@@ -25,20 +26,6 @@ pub struct Measure {
     pub rounded: u64,
 }
 
-// What `exact` answers.
-#[derive(Clone, Copy)]
-pub enum Measured {
-    Given(Measure),
-    Refused(Refusal),
-}
-
-// What `exact_sum` answers.
-#[derive(Clone, Copy)]
-pub enum Summed {
-    Given(Duration),
-    Refused(Refusal),
-}
-
 // One product, divided once.
 fn exact_of(rate: u32, n: u64) -> Duration
     requires { (rate ≤ 96000) × (n ≤ longest) }
@@ -52,17 +39,16 @@ fn exact_of(rate: u32, n: u64) -> Duration
 }
 
 // How many samples n bits last at a rate: quotient and remainder of n × rate by 300, and the rounded count beside them; or 1 or 7.
-pub fn exact(rate: u32, n: u64) -> Measured
+#[tactic(auto, unfolding(crate::specs::Durations::exact_reply), using(crate::proofs::Summing::measures_none))]
+pub fn exact(rate: u32, n: u64) -> Result<Measure, Refusal>
     ensures { Measures rate n result }
 {
-    if !rate_ok(rate) {
-        return Measured::Refused(Refusal::Rate);
-    }
+    check_rate(rate)?;
     if LONGEST < n {
-        return Measured::Refused(Refusal::TooManyBits);
+        return Err(Refusal::TooManyBits);
     }
     let exact = exact_of(rate, n);
-    Measured::Given(Measure {
+    Ok(Measure {
         exact,
         rounded: nearest(n * rate as u64, BAUD as u64),
     })
@@ -80,20 +66,6 @@ fn join(a: Duration, b: Duration) -> Duration
     }
 }
 
-// Whether a length is too long to be counted.
-fn any_too_long(lengths: &[u64]) -> bool
-    ensures { result ≡ any_too_long lengths.now }
-{
-    let mut i = 0;
-    while i < lengths.len() {
-        if LONGEST < lengths[i] {
-            return true;
-        }
-        i += 1;
-    }
-    false
-}
-
 // The lengths, one behind the other.
 fn add_all(rate: u32, lengths: &[u64]) -> Duration
     requires { (rate ≤ 96000) × (length lengths.now ≤ most_lengths) × (any_too_long lengths.now ≡ false) }
@@ -103,26 +75,23 @@ fn add_all(rate: u32, lengths: &[u64]) -> Duration
         quotient: 0,
         remainder: 0,
     };
-    let mut i = 0;
-    while i < lengths.len() {
-        sum = join(sum, exact_of(rate, lengths[i]));
-        i += 1;
+    for &n in lengths {
+        sum = join(sum, exact_of(rate, n));
     }
     sum
 }
 
 // How many samples a list of lengths lasts at a rate, each a number of bits: the sum with its carried remainder; or 1, 42 or 7.
-pub fn exact_sum(rate: u32, lengths: &[u64]) -> Summed
+#[tactic(auto, unfolding(crate::specs::Durations::sum_reply), using(crate::proofs::Summing::sums_none))]
+pub fn exact_sum(rate: u32, lengths: &[u64]) -> Result<Duration, Refusal>
     ensures { Sums rate lengths.now result }
 {
-    if !rate_ok(rate) {
-        return Summed::Refused(Refusal::Rate);
-    }
+    check_rate(rate)?;
     if MOST_LENGTHS < lengths.len() {
-        return Summed::Refused(Refusal::TooManyLengths);
+        return Err(Refusal::TooManyLengths);
     }
-    if any_too_long(lengths) {
-        return Summed::Refused(Refusal::TooManyBits);
+    if any_above(LONGEST, lengths) {
+        return Err(Refusal::TooManyBits);
     }
-    Summed::Given(add_all(rate, lengths))
+    Ok(add_all(rate, lengths))
 }

@@ -8,7 +8,7 @@ use refusal::DSP_RATE;
 
 mod durations;
 
-pub use durations::{Duration, Measure, Measured, Summed, exact, exact_sum};
+pub use durations::{Duration, Measure, exact, exact_sum};
 
 // Bell 103 symbol rate, in symbols a second.
 pub const BAUD: u32 = 300;

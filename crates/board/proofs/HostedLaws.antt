@@ -1,42 +1,42 @@
 -- The third term for a host that calls `new` and `write` itself: it follows from what the calls ensure. Assumes nothing.
+use Rattle.std.specs.Prelude.{Ok, Err}
 use Prim.Native.Nat.{ℕ, zero, suc}
 use mathlib.Core.Path.{◌≡◌, refl, sym, ap, ap₂, ◌∙◌}
 use mathlib.Core.List.{List, [], ◌∷◌}
 use native.Mathlib.Omega.{arith}
 use lib.Ieee.{Float}
-use Rattle.refusal.specs.Refusals.{given, acceptance_of, reply_of}
+use Rattle.refusal.specs.Refusals.{given, reply_in, reply_of}
 use Rattle.bell103.specs.declared.Role.{Role}
 use Rattle.refusal.specs.declared.Refusal.{Refusal}
-use Rattle.refusal.specs.declared.Acceptance.TheVariants.{Accepted, Refused}
 use Rattle.board.specs.Plain.{Plain, Answer, fresh, new_number, new_of, after_all, answers_all}
 use Rattle.board.proofs.PlainLaws.{new-fresh}
 use Rattle.board.specs.Term.{Term3}
 use Rattle.board.proofs.Third.{third}
 use Rattle.board.specs.BoardRep.{plain_of, Makes}
 use Rattle.board.specs.declared.board.Board.{Board}
-use Rattle.board.specs.declared.board.Created.{Created}
+use Rattle.refusal.specs.declared.Answered.{Answered}
 use Rattle.board.specs.Hosted.{Calls, Follows}
 
 -- ---- what `new` answered
-module _ (rate station : ℕ) (role : Role) (m : Created) (made : Makes rate station role m) where
-  number_of : acceptance_of m.answer ≡ reply_of (new_number rate station)
+module _ (rate station : ℕ) (role : Role) (m : Answered Board Unit) (made : Makes rate station role m) where
+  number_of : reply_in m.answer ≡ reply_of (new_number rate station)
   unfolding new_of
   number_of = made.answer
 
-  pub new-accepted : m.answer ≡ Accepted → new_number rate station ≡ 0
-  new-accepted e = by (new_number rate station) (ap acceptance_of (sym e) ∙ number_of)
+  pub new-accepted : m.answer ≡ Ok tt → new_number rate station ≡ 0
+  new-accepted e = by (new_number rate station) (ap reply_in (sym e) ∙ number_of)
     where
       by : (n : ℕ) → given tt ≡ reply_of n → n ≡ 0
       by zero z = refl
       by (suc n) z = let y : ◌≡◌ {A = ℕ} 0 1 = cc in absurd (omega arith)
 
-  pub new-refused : (why : Refusal) → m.answer ≡ Refused why → new_number rate station ≡ 0 → ⊥
+  pub new-refused : (why : Refusal) → m.answer ≡ Err why → new_number rate station ≡ 0 → ⊥
   new-refused why e z =
-      let a = ap acceptance_of (sym e) ∙ number_of ∙ ap reply_of z in
+      let a = ap reply_in (sym e) ∙ number_of ∙ ap reply_of z in
       let y : ◌≡◌ {A = ℕ} 0 1 = cc in
       omega arith
 
-  pub fresh-made : m.answer ≡ Accepted → plain_of m.state ≡ fresh rate station role
+  pub fresh-made : m.answer ≡ Ok tt → plain_of m.state ≡ fresh rate station role
   fresh-made e = made.state ∙ new-fresh rate station role (new-accepted e)
 
 pub follows : (b : Board) (ws : List (List Float)) (end : Board) (said : List Answer) → Calls b ws end said → Follows b ws end said
@@ -54,8 +54,8 @@ follows b (s ∷ ws) end (a ∷ said) c =
     }
 
 -- whoever holds what `new` and each `write` ensured has the third term of the list
-pub hosted : (rate station : ℕ) (role : Role) (m : Created) (ws : List (List Float)) (end : Board) (said : List Answer)
-    → Makes rate station role m → m.answer ≡ Accepted → Calls m.state ws end said → Term3 (fresh rate station role) ws (plain_of end) said
+pub hosted : (rate station : ℕ) (role : Role) (m : Answered Board Unit) (ws : List (List Float)) (end : Board) (said : List Answer)
+    → Makes rate station role m → m.answer ≡ Ok tt → Calls m.state ws end said → Term3 (fresh rate station role) ws (plain_of end) said
 hosted rate station role m ws end said made e c =
     let k = follows m.state ws end said c in
     rw (k.board, k.answers, fresh-made rate station role m made e) (third rate station role ws)

@@ -7,6 +7,5 @@ pub mod Starred
 pub mod HostedLaws
 pub mod BoardRepLaws
 pub mod Writing
-pub mod Stores
 pub mod Running
 pub mod Listening

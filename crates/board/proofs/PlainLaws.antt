@@ -12,11 +12,10 @@ use Rattle.std.specs.Prelude.{if◌then◌else◌}
 use Rattle.refusal.specs.Refusals.{first, rate_refused}
 use Rattle.refusal.proofs.RefusalLaws.{first-yes}
 use Rattle.bell103.specs.declared.Role.{Role}
-use Rattle.happenings.specs.Happening.{bytes_in}
 use Rattle.happenings.specs.declared.happening.Happening.{Happening}
 use Rattle.modem.specs.Listener.{samples_refused}
 use Rattle.modem.proofs.RxCalls.{never-waits, admitted-same}
-use Rattle.tide.specs.Decoder.{Decoder, took_all, lines_in, verdicts_in, last_of}
+use Rattle.tide.specs.Decoder.{Decoder, took_all, lines_in, verdicts_in}
 use Rattle.tide.proofs.DecoderLaws.{took_all-append, lines_in-append, verdicts_in-append}
 use Rattle.board.specs.Plain.{Plain, decoder, fresh, new_number, new_of, number, accepts, heard_of, heard_in, took, after, lines, verdicts, Summary, summary, Answer, refused, heard, answer, after_all, heard_all, lines_all, verdicts_all, answers_all, ended_in}
 

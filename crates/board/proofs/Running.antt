@@ -1,4 +1,6 @@
 -- A list of writes, run by the code. Assumes nothing.
+use Rattle.board.specs.declared.board.Summary.{Summary}
+use Rattle.std.specs.Prelude.{Ok}
 use Prim.Native.Nat.{ℕ, min, ◌+◌, ◌*◌, ◌-◌, ◌/◌, ◌<◌, ◌≤◌, zero-le}
 use mathlib.Core.Path.{◌≡◌, refl, sym, ap, ◌∙◌}
 use mathlib.Core.List.{List, [], ◌∷◌, ◌++◌, append_assoc, append-nil}
@@ -8,18 +10,17 @@ use native.Mathlib.Omega.{arith}
 use lib.ListN.{length, get_or, take, drop, take-append-drop}
 use lib.Seq.{drop-cons, drop-drop, drop-length, length-take-le, get_or-take}
 use lib.Ieee.{Float}
-use Rattle.refusal.specs.declared.Acceptance.TheVariants.{Accepted}
 use Rattle.numeric.proofs.Parts.{take_behind, drop-behind, part-next, part_left}
 use Rattle.board.specs.Plain.{Plain, Answer, refused, heard, answer, after_all, answers_all}
-use Rattle.board.specs.BoardRep.{plain_of, answer_of, BoardSound, Writes}
+use Rattle.board.specs.BoardRep.{plain_of, answer_of, Writes}
 use Rattle.board.specs.Runs.{writes_of, numbers_of, numbers_all, writes_run, Within, Stepped, RunFrom}
 use Rattle.board.specs.declared.board.Board.{Board}
-use Rattle.board.specs.declared.board.Written.{Written}
+use Rattle.refusal.specs.declared.Answered.{Answered}
 use Rattle.board.specs.declared.writes.Place.{Place}
 use Rattle.board.specs.declared.numbers.Numbers.{Numbers}
 
 -- ---- one write: the samples up to e are lent, and its answer's numbers are written
-pub steps : (p : Place) (n e : ℕ) (s : List Float) (w : Written) (t : Numbers) (at : ℕ) (a a' : List ℕ)
+pub steps : (p : Place) (n e : ℕ) (s : List Float) (w : Answered Board Summary) (t : Numbers) (at : ℕ) (a a' : List ℕ)
     → e ≡ p.read + min n (length s - p.read) → e ≤ length s
     → Writes p.board (take (e - p.read) (drop p.read s)) w
     → t.number ∷ t.bytes ∷ t.lines ∷ t.last ∷ t.bad_stops ∷ [] ≡ numbers_of (answer_of w.answer)
@@ -31,7 +32,7 @@ steps p n e s w t at a a' is fits writes numbers put =
       state = rw (← k) writes.state;
       left = part_left s p.read n e is;
       answers = rw (← k, ← writes.answer, ← numbers) put;
-      within = record { sound = writes.sound; read = fits };
+      within = record { read = fits };
     }
 
 -- ---- part of the way: after i writes of the lengths ns, at p, with the answers a in the place of a₀; what the rest does on p is what all do on b₀
@@ -41,8 +42,8 @@ pub record Going (b₀ : Plain) (s : List Float) (ns a₀ : List ℕ) (i : ℕ) 
   pub answers : take (5 * i) a ++ numbers_all (answers_all (plain_of p.board) (writes_of (drop p.read s) (drop i ns))) ≡ numbers_all (answers_all b₀ (writes_of s ns))
   pub rest : drop (5 * i) a ≡ drop (5 * i) a₀
 
-pub going_start : (b : Board) (s : List Float) (ns a : List ℕ) → BoardSound b → Going (plain_of b) s ns a 0 (record { board = b; read = 0 }) a
-going_start b s ns a k = record { within = record { sound = k; read = zero-le }; board = refl; answers = refl; rest = refl }
+pub going_start : (b : Board) (s : List Float) (ns a : List ℕ) → Going (plain_of b) s ns a 0 (record { board = b; read = 0 }) a
+going_start b s ns a = record { within = record { read = zero-le }; board = refl; answers = refl; rest = refl }
 
 module _ (b₀ : Plain) (s : List Float) (ns a₀ : List ℕ) (i : ℕ) (p q : Place) (a a' : List ℕ) (some : i < length ns) (room : 5 * i + 5 ≤ length a)
     (step : Stepped p q (get_or ns i 0) s (5 * i) a a') where
@@ -88,7 +89,7 @@ module _ (b₀ : Plain) (s : List Float) (ns a₀ : List ℕ) (i : ℕ) (p q : P
 -- ---- after the last
 pub goes_through : (b : Board) (s : List Float) (ns a₀ : List ℕ) (i : ℕ) (p : Place) (a : List ℕ)
     → i ≡ writes_run ns a₀ → Going (plain_of b) s (take i ns) a₀ i p a
-    → RunFrom b s ns a₀ (record { answer = Accepted; writes = i; state = p.board }) a
+    → RunFrom b s ns a₀ (record { answer = Ok tt; writes = i; state = p.board }) a
 unfolding writes_of after_all answers_all numbers_all
 goes_through b s ns a₀ i p a e g =
     let l : length (take i ns) ≡ i = length-take-le i ns (omega (arith, e, min-le_left (length ns) (length a₀ / 5))) in
@@ -100,7 +101,6 @@ goes_through b s ns a₀ i p a e g =
       answers =
           let f : take (5 * i) a ≡ numbers_all (answers_all (plain_of b) (writes_of s (take i ns))) = sym (append-nil (take (5 * i) a)) ∙ (rw z at g.answers) in
           sym (take-append-drop (5 * i) a) ∙ ap (λ (x : List ℕ). x ++ drop (5 * i) a) f ∙ ap (λ (x : List ℕ). numbers_all (answers_all (plain_of b) (writes_of s (take i ns))) ++ x) g.rest;
-      sound = g.within.sound;
     }
 
 -- the writes that are run have a length and room

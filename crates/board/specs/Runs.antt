@@ -1,11 +1,10 @@
 -- A list of writes as the code takes and answers it, and the third term of it. Assumes nothing.
-use Rattle.std.specs.Prelude.{ℕ, ◌+◌, ◌*◌, ◌/◌, ◌≤◌, min, ◌≡◌, List, [], ◌∷◌, ◌++◌, length, take, drop, Float}
-use Rattle.refusal.specs.Refusals.{acceptance_of}
+use Rattle.std.specs.Prelude.{ℕ, ◌+◌, ◌*◌, ◌/◌, ◌≤◌, min, ◌≡◌, List, [], ◌∷◌, ◌++◌, length, take, drop, Float, Ok}
+use Rattle.refusal.specs.Refusals.{reply_in}
 use Rattle.bell103.specs.declared.Role.{Role}
-use Rattle.refusal.specs.declared.Acceptance.TheVariants.{Accepted}
 use Rattle.board.specs.Plain.{Plain, Answer, refused, heard, fresh, after, answer, after_all, answers_all, new_number, new_of}
 use Rattle.board.specs.Term.{Term3}
-use Rattle.board.specs.BoardRep.{plain_of, BoardSound}
+use Rattle.board.specs.BoardRep.{plain_of}
 use Rattle.board.specs.declared.board.Board.{Board}
 use Rattle.board.specs.declared.writes.Place.{Place}
 use Rattle.board.specs.declared.writes.Listened.{Listened}
@@ -39,7 +38,6 @@ writes_run lengths answers = min (length lengths) (length answers / width)
 -- ---- in the code
 -- the board, and how many of the samples are behind it
 pub record Within (p : Place) (s : List Float) : Type 0 where
-  pub sound : BoardSound p.board
   pub read : p.read ≤ length s
 
 -- a write of n samples leads from p to q, and its answer's numbers stand at `at` of the answers
@@ -51,11 +49,10 @@ pub record Stepped (p q : Place) (n : ℕ) (s : List Float) (at : ℕ) (before a
 
 -- the writes of a list, from the board b₀ on
 pub record RunFrom (b₀ : Board) (s : List Float) (ns before : List ℕ) (r : Listened) (after' : List ℕ) : Type 0 where
-  pub answer : r.answer ≡ Accepted
+  pub answer : r.answer ≡ Ok tt
   pub writes : r.writes ≡ writes_run ns before
   pub state : plain_of r.state ≡ after_all (plain_of b₀) (writes_of s (take r.writes ns))
   pub answers : after' ≡ numbers_all (answers_all (plain_of b₀) (writes_of s (take r.writes ns))) ++ drop (width * r.writes) before
-  pub sound : BoardSound r.state
 
 -- ---- `listen`
 -- the third term of the writes that are run, with the numbers of the answers given in front of what stood in the answers
@@ -73,7 +70,6 @@ pub record NotRun (b₀ : Plain) (before : List ℕ) (r : Listened) (after' : Li
 
 -- `new`, and where it refuses nothing the list of writes
 pub record Listens (rate station : ℕ) (role : Role) (s : List Float) (ns before : List ℕ) (r : Listened) (after' : List ℕ) : Type 0 where
-  pub answer : acceptance_of r.answer ≡ (new_of rate station role).answer
+  pub answer : reply_in r.answer ≡ (new_of rate station role).answer
   pub refused : (new_number rate station ≡ 0 → ⊥) → NotRun (new_of rate station role).state before r after'
   pub run : new_number rate station ≡ 0 → Runs (fresh rate station role) s ns before r after'
-  pub sound : BoardSound r.state

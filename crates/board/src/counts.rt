@@ -9,10 +9,8 @@ pub fn sum_of(counts: [u64; 12]) -> u64
     ensures { result ≡ total counts }
 {
     let mut sum = 0;
-    let mut i = 0;
-    while i < 12 {
+    for i in 0..12 {
         sum += counts[i];
-        i += 1;
     }
     sum
 }

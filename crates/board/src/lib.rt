@@ -13,5 +13,5 @@ mod numbers;
 mod station;
 mod writes;
 
-pub use board::{Answer, Board, Created, Summary, Written};
+pub use board::{Board, Summary};
 pub use writes::{Listened, listen};

@@ -1,5 +1,5 @@
 // How a write's answer goes into a lent slice.
-ghost use Rattle.std.specs.Prelude.{◌≡◌, [], ◌∷◌, min, ◌+◌, ◌/◌, ◌≤◌, length};
+ghost use Rattle.std.specs.Prelude.{◌≡◌, [], ◌∷◌, ◌+◌, ◌≤◌, length};
 ghost use Rattle.board.specs.Runs.{width, put_at};
 
 // How many numbers an answer has.
@@ -19,20 +19,12 @@ pub(crate) fn tell(answers: &mut [u64], at: usize, t: Numbers)
     requires { at + width ≤ length answers.old }
     ensures { answers.new ≡ put_at at (t.number ∷ t.bytes ∷ t.lines ∷ t.last ∷ t.bad_stops ∷ []) answers.old }
 {
-    answers[at] = t.number as u64;
-    answers[at + 1] = t.bytes;
-    answers[at + 2] = t.lines;
-    answers[at + 3] = t.last as u64;
-    answers[at + 4] = t.bad_stops;
-}
-
-// How many of the writes have room for their numbers.
-pub fn writes_in(writes: usize, room: usize) -> usize
-    ensures { result ≡ min writes (room / width) }
-{
-    if writes < room / WIDTH {
-        writes
-    } else {
-        room / WIDTH
-    }
+    let row = [
+        t.number as u64,
+        t.bytes,
+        t.lines,
+        t.last as u64,
+        t.bad_stops,
+    ];
+    answers[at..at + WIDTH].copy_from_slice(&row);
 }

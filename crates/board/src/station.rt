@@ -2,19 +2,20 @@
 ghost use Rattle.std.specs.Prelude.{◌≡◌};
 ghost use Rattle.board.specs.Station.{checked};
 
-use refusal::{Acceptance, Refusal};
+use refusal::Refusal;
 
 // Refusal 2, where 1 does not apply.
-pub fn check_station(answer: Acceptance, station: u16) -> Acceptance
+#[tactic(auto, unfolding(crate::specs::Station::checked))]
+pub fn check_station(answer: Result<(), Refusal>, station: u16) -> Result<(), Refusal>
     ensures { result ≡ checked answer station }
 {
     match answer {
-        Acceptance::Refused(_) => answer,
-        Acceptance::Accepted => {
+        Err(_) => answer,
+        Ok(()) => {
             if station == 0 {
-                return Acceptance::Refused(Refusal::Station);
+                return Err(Refusal::Station);
             }
-            Acceptance::Accepted
+            Ok(())
         }
     }
 }

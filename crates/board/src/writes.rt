@@ -1,34 +1,34 @@
 // A list of writes from a fresh board on.
 ghost use Rattle.std.specs.Prelude.{◌≡◌, [], ◌∷◌, ◌+◌, ◌≤◌, length};
-ghost use Rattle.board.specs.BoardRep.{answer_of, BoardSound};
+ghost use Rattle.board.specs.BoardRep.{answer_of};
 ghost use Rattle.board.specs.Runs.{width, numbers_of, Within, Stepped, RunFrom, Listens};
 
-use crate::board::{Answer, Board};
-use crate::numbers::{Numbers, WIDTH, tell, writes_in};
+use crate::board::{Board, Summary};
+use crate::numbers::{Numbers, WIDTH, tell};
 use bell103::Role;
 use numeric::ends::part_end;
-use refusal::Acceptance;
+use refusal::Refusal;
 
 // What `listen` answers: `new`'s answer, how many writes it ran, and the board after them.
 #[derive(Clone, Copy)]
 pub struct Listened {
     pub state: Board,
-    pub answer: Acceptance,
+    pub answer: Result<(), Refusal>,
     pub writes: usize,
 }
 
-fn numbers_of(answer: Answer) -> Numbers
+fn numbers_of(answer: Result<Summary, Refusal>) -> Numbers
     ensures { result.number ∷ result.bytes ∷ result.lines ∷ result.last ∷ result.bad_stops ∷ [] ≡ numbers_of (answer_of answer) }
 {
     match answer {
-        Answer::Refused(why) => Numbers {
-            number: why.number(),
+        Err(why) => Numbers {
+            number: u32::from(why),
             bytes: 0,
             lines: 0,
             last: 0,
             bad_stops: 0,
         },
-        Answer::Heard(x) => Numbers {
+        Ok(x) => Numbers {
             number: 0,
             bytes: x.bytes,
             lines: x.lines,
@@ -50,37 +50,28 @@ fn one_write(p: Place, samples: &[f32], n: u32, answers: &mut [u64], at: usize) 
     requires { Within p samples.now × (at + width ≤ length answers.old) }
     ensures { Stepped p result n samples.now at answers.old answers.new }
 {
-    let board = p.board;
-    let read = p.read;
-    let end = part_end(read, n, samples.len());
-    let w = board.write(&samples[read..end]);
-    let answer = w.answer;
-    let t = numbers_of(answer);
-    tell(answers, at, t);
-    let next = w.state;
+    let end = part_end(p.read, n, samples.len());
+    let w = p.board.write(&samples[p.read..end]);
+    tell(answers, at, numbers_of(w.answer));
     Place {
-        board: next,
+        board: w.state,
         read: end,
     }
 }
 
 // A write for each length.
 fn all_writes(board: Board, samples: &[f32], lengths: &[u32], answers: &mut [u64]) -> Listened
-    requires { BoardSound board }
     ensures { RunFrom board samples.now lengths.now answers.old result answers.new }
 {
-    let writes = writes_in(lengths.len(), answers.len());
+    let writes = lengths.len().min(answers.len() / WIDTH);
     let mut place = Place { board, read: 0 };
-    let mut i = 0;
-    while i < writes {
+    for i in 0..writes {
         place = one_write(place, samples, lengths[i], answers, WIDTH * i);
-        i += 1;
     }
-    let state = place.board;
     Listened {
-        answer: Acceptance::Accepted,
+        answer: Ok(()),
         writes,
-        state,
+        state: place.board,
     }
 }
 
@@ -100,11 +91,11 @@ pub fn listen(
     let answer = made.answer;
     let state = made.state;
     match answer {
-        Acceptance::Refused(_) => Listened {
+        Err(_) => Listened {
             answer,
             writes: 0,
             state,
         },
-        Acceptance::Accepted => all_writes(state, samples, lengths, answers),
+        Ok(()) => all_writes(state, samples, lengths, answers),
     }
 }

@@ -1,23 +1,20 @@
 -- Which call each kind is, and the amplitude in a number. Assumes nothing.
 use Prim.Native.Nat.{ℕ, ◌%◌, ◌<◌, ◌≤◌}
-use mathlib.Core.Path.{◌≡◌, refl, sym, ◌∙◌, subst}
-use mathlib.Core.Bool.{true, not}
+use mathlib.Core.Path.{◌≡◌, refl, sym, ap, ◌∙◌, subst}
+use mathlib.Core.Bool.{Bool, true, false, not}
 use mathlib.Core.List.{List}
-use borrow.Author.Tests.{eq-eqb, ne_eqb, lt-ltb, le-ltb}
+use borrow.Author.Tests.{lt-ltb, le-ltb}
 use lib.Dec.{T}
 use lib.ListN.{length}
 use lib.Ieee.{Float, nan, inf, fin, binary32, of_bits, nan_bits, is_nan, div}
 use lib.Ieee.Bits.{nan_bits_is, nan_bits_above}
-use Rattle.refusal.specs.Refusals.{Reply}
-use Rattle.calls.specs.Answers.{number_in, count_in}
-use Rattle.modulation.specs.Tx.{Sender, Adjusted, adjusted, amplitude_of, Reading, reading, read_of, duration_of}
-use Rattle.modulation.specs.TxRep.{sender_of, TxSound}
-use Rattle.modulation.specs.Queueing.{Queueing, queueing, write_of, idle_mark_of}
-use Rattle.modulation.specs.declared.tx.Tx.{Tx}
-use Rattle.calls.specs.Script.{outcome, unless_refused}
-use Rattle.calls.specs.Send.{of_queueing, of_adjusted, of_reading, of_duration, amplitude_in, called}
-use Rattle.calls.specs.SendSteps.{outcome_of}
-use Rattle.calls.specs.declared.send.Called.{Called}
+use Rattle.std.specs.Prelude.{eqb, if◌then◌else◌}
+use Rattle.modulation.specs.Tx.{Sender, amplitude_of, read_of, duration_of}
+use Rattle.modulation.specs.Queueing.{write_of, idle_mark_of}
+use Rattle.calls.specs.Script.{Outcome}
+use Rattle.calls.specs.Send.{of_queueing, of_adjusted, of_reading, of_duration, amplitude_in, called, kind_of}
+use Rattle.calls.specs.declared.send.Kind.{Kind}
+use Rattle.calls.specs.declared.send.Kind.TheVariants as kinds
 
 -- ---- the amplitude
 is-nan : (x : Float) → is_nan x ≡ true → nan ≡ x
@@ -37,41 +34,24 @@ pub amplitude-number : (b : ℕ) → b % 0x8000_0000 ≤ 0x7F80_0000 → T (not 
 amplitude-number b h = rw (nan_bits_above binary32 b ∙ le-ltb _ _ h) tt
 
 -- ---- the kinds
-module _ (kind n : ℕ) (s : Sender) (bytes : List ℕ) (part : List Float) where
-  pub writes : kind ≡ 0 → called kind n s bytes part ≡ of_queueing (write_of s bytes) part
+module _ (n : ℕ) (s : Sender) (bytes : List ℕ) (part : List Float) where
+  -- the call of a kind
+  abbrev pub by-kind : Kind → Outcome Sender Float
+  by-kind kinds.Write = of_queueing (write_of s bytes) part
+  by-kind kinds.IdleMark = of_queueing (idle_mark_of s n) part
+  by-kind kinds.Amplitude = of_adjusted (amplitude_of s (amplitude_in n)) part
+  by-kind kinds.Read = of_reading (read_of s part) (length part)
+  by-kind kinds.SamplesForBits = of_duration (duration_of s n) s part
+
+  pub called-is : (kind : ℕ) (k : Kind) → k ≡ kind_of kind → by-kind k ≡ called kind n s bytes part
   unfolding called
-  writes e = rw (eq-eqb kind 0 e)
-
-  module _ (a : kind ≡ 0 → ⊥) where
-    pub marks : kind ≡ 1 → called kind n s bytes part ≡ of_queueing (idle_mark_of s n) part
-    unfolding called
-    marks e = rw (ne_eqb kind 0 a, eq-eqb kind 1 e)
-
-    module _ (b : kind ≡ 1 → ⊥) where
-      pub scales : kind ≡ 2 → called kind n s bytes part ≡ of_adjusted (amplitude_of s (amplitude_in n)) part
-      unfolding called
-      scales e = rw (ne_eqb kind 0 a, ne_eqb kind 1 b, eq-eqb kind 2 e)
-
-      module _ (c : kind ≡ 2 → ⊥) where
-        pub reads : kind ≡ 3 → called kind n s bytes part ≡ of_reading (read_of s part) (length part)
-        unfolding called
-        reads e = rw (ne_eqb kind 0 a, ne_eqb kind 1 b, ne_eqb kind 2 c, eq-eqb kind 3 e)
-
-        pub lasts : (kind ≡ 3 → ⊥) → called kind n s bytes part ≡ of_duration (duration_of s n) s part
-        unfolding called
-        lasts d = rw (ne_eqb kind 0 a, ne_eqb kind 1 b, ne_eqb kind 2 c, ne_eqb kind 3 d)
-
--- ---- what the code answers
-module _ (r : Called) (a : Reply Unit) (t : Tx) (sound : TxSound t) (part : List Float) where
-  pub from-queueing : (q : Queueing) → queueing a (sender_of t) ≡ q → (r.number ≡ number_in a) × (r.value ≡ 0) × (r.state ≡ t) → (outcome_of r part ≡ of_queueing q part) × TxSound r.state
-  from-queueing q e f = (rw (← e, f.0, f.1, f.2), rw f.2 sound)
-
-  pub from-adjusted : (q : Adjusted) → adjusted a (sender_of t) ≡ q → (r.number ≡ number_in a) × (r.value ≡ 0) × (r.state ≡ t) → (outcome_of r part ≡ of_adjusted q part) × TxSound r.state
-  from-adjusted q e f = (rw (← e, f.0, f.1, f.2), rw f.2 sound)
-
-pub from-reading : (a : Reply Unit) (t : Tx) (part : List Float) (q : Reading) (p n k v : ℕ) → reading a p (sender_of t) part ≡ q → k ≡ number_in a → v ≡ unless_refused a n
-    → outcome k v (sender_of t) part ≡ of_reading q n
-from-reading a t part q p n k v e ek ev = rw (← e, ek, ev)
-
-pub from-duration : (k v : ℕ) (t : Tx) (part : List Float) (d : Reply ℕ) (e : Reply ℕ) → d ≡ e → (k ≡ number_in d) × (v ≡ count_in d) → outcome k v (sender_of t) part ≡ of_duration e (sender_of t) part
-from-duration k v t part d e is f = rw (← is, f.0, f.1)
+  called-is kind k e = ap by-kind e ∙ cases (eqb kind 0) (eqb kind 1) (eqb kind 2) (eqb kind 3)
+    where
+      cases : (a b c d : Bool)
+          → by-kind (if a then kinds.Write else if b then kinds.IdleMark else if c then kinds.Amplitude else if d then kinds.Read else kinds.SamplesForBits)
+          ≡ (if a then by-kind kinds.Write else if b then by-kind kinds.IdleMark else if c then by-kind kinds.Amplitude else if d then by-kind kinds.Read else by-kind kinds.SamplesForBits)
+      cases true b c d = refl
+      cases false true c d = refl
+      cases false false true d = refl
+      cases false false false true = refl
+      cases false false false false = refl

@@ -14,7 +14,7 @@ use Rattle.std.specs.Prelude.{if◌then◌else◌}
 use Rattle.refusal.specs.Refusals.{Reply, given, refused, rates_refused, dsp_rate}
 use Rattle.resampling.specs.Resample.{State, fresh, Made, made, new_of, reset_of, Outcome, outcome, laid, unless_refused, refusal_of, ran_over, len_of, processed}
 use Rattle.resampling.specs.Flow.{Ran}
-use Rattle.resampling.specs.ResampleRep.{state_of, Sound}
+use Rattle.resampling.specs.ResampleRep.{state_of}
 use Rattle.resampling.specs.declared.resample.Resampler.{Resampler}
 use Rattle.calls.proofs.Made.{accepted-only, refused-only}
 use Rattle.numeric.proofs.Parts.{take_behind, drop-behind, part-next, part_left}
@@ -212,8 +212,8 @@ module _ (p : Place) (kind n e : ℕ) (xs out : List Float) (at_p : Within p xs 
       let w : length (take p.written out) ≡ p.written = length-take-le p.written out at_p.written in
       rw (out-is, length-append, w) (omega arith)
 
-  pub call-within : Sound st → (count : ℕ) → count ≡ count_in a → Within (place_after count) xs out-after
-  call-within s count e = record { sound = s; read = fits; written = rw e call-written }
+  pub call-within : (count : ℕ) → count ≡ count_in a → Within (place_after count) xs out-after
+  call-within count e = record { read = fits; written = rw e call-written }
 
   module _ (t : Numbers) (number : t.number ≡ number_in a) (count : t.count ≡ count_in a) (before behind ans' : List ℕ)
       (reply-is : ans' ≡ before ++ (t.number ∷ t.count ∷ behind)) where

@@ -1,11 +1,10 @@
 -- Parts of lists, as the code lends them. Assumes nothing.
 use Prim.Native.Nat.{ℕ, suc, ◌+◌, ◌-◌, ◌≤◌}
 use mathlib.Core.Path.{◌≡◌, ap, ◌∙◌}
-use mathlib.Core.List.{List, [], ◌∷◌, ◌++◌, append-nil, append_assoc}
-use native.Mathlib.Numerals.{add-one}
+use mathlib.Core.List.{List, ◌∷◌, ◌++◌, append-nil, append_assoc}
 use native.Mathlib.Omega.{arith}
-use lib.ListN.{length, get_or, set, take, drop, length-drop, take-append-drop, drop_of_length-le}
-use lib.Seq.{take-length, drop-append-le, drop-cons, sets-eq}
+use lib.ListN.{length, get_or, take, drop, length-drop, take-append-drop, drop_of_length-le}
+use lib.Seq.{take-length, drop-append-le, drop-cons}
 
 module _ {A : Type 0} where
   -- the whole rest of a list, and another in its place
@@ -26,17 +25,3 @@ module _ {A : Type 0} where
   next-two d l at h =
       let z : at + 2 ≡ suc (suc at) = omega arith in
       rw z (drop-cons l at d (omega arith) ∙ ap (λ (r : List A). get_or l at d ∷ r) (drop-cons l (suc at) d (omega arith)))
-
-  -- two stores
-  pub set-two : (l : List A) (at : ℕ) (x y : A) → at + 2 ≤ length l → set (set l at x) (at + 1) y ≡ take at l ++ (x ∷ y ∷ drop (at + 2) l)
-  set-two l at x y h = rw add-one (sets-eq (x ∷ y ∷ []) l at h ∙ append_assoc (take at l) (x ∷ y ∷ []) (drop (at + 2) l))
-
-  -- six stores
-  pub set-six : (l : List A) (at : ℕ) (a b c d e f : A) → at + 6 ≤ length l
-      → set (set (set (set (set (set l at a) (at + 1) b) (at + 2) c) (at + 3) d) (at + 4) e) (at + 5) f ≡ take at l ++ ((a ∷ b ∷ c ∷ d ∷ e ∷ f ∷ []) ++ drop (at + 6) l)
-  set-six l at a b c d e f h =
-      let two : at + 2 ≡ suc (suc at) = omega arith in
-      let three : at + 3 ≡ suc (suc (suc at)) = omega arith in
-      let four : at + 4 ≡ suc (suc (suc (suc at))) = omega arith in
-      let five : at + 5 ≡ suc (suc (suc (suc (suc at)))) = omega arith in
-      rw (add-one, two, three, four, five) (sets-eq (a ∷ b ∷ c ∷ d ∷ e ∷ f ∷ []) l at h ∙ append_assoc (take at l) (a ∷ b ∷ c ∷ d ∷ e ∷ f ∷ []) (drop (at + 6) l))

@@ -9,11 +9,12 @@ use native.Mathlib.Omega.{arith}
 use lib.ListN.{length, get_or, set, take, drop, length-drop, length-map, length-take, take-append-drop}
 use lib.Seq.{append_snoc, drop-cons, drop-drop, drop-length, get_or-drop, length-take-le, set_at, take_all, take-suc}
 use lib.Ieee.{Float}
-use Rattle.refusal.specs.Refusals.{Reply, given}
+use Rattle.refusal.specs.Refusals.{Reply}
 use Rattle.demodulation.specs.Demod.{events_of}
-use Rattle.demodulation.specs.declared.demod.Event.{Event}
+use Rattle.demodulation.specs.declared.demod.Carrier.{Carrier}
+use Rattle.std.specs.Prelude.{Option}
 use Rattle.modem.specs.Rx.{Receiver, receiver, wrote, written, ReadOut, read_out, read_of, Taken, taken, event_of, carrier_of, errors_of}
-use Rattle.modem.specs.RxRep.{receiver_of, RxSound}
+use Rattle.modem.specs.RxRep.{receiver_of}
 use Rattle.modem.specs.declared.rx.Rx.{Rx}
 use Rattle.calls.specs.Receive.{call_in, Called, called, relieved, call_reply, Run, ran, after, received_from}
 use Rattle.numeric.proofs.Parts.{take_min, drop_min, part-next, part_left, put_front, put-behind, put-within}
@@ -43,7 +44,7 @@ pub taking-start : (r : Receiver) (buf : List ℕ) → Taking r buf 0 r buf
 taking-start r buf = record { waited = zero-le; state = refl; buffer = refl }
 
 module _ (r : Receiver) (buf : List ℕ) (i : ℕ) (r' : Receiver) (buf' : List ℕ) (t : Taking r buf i r' buf')
-    (e : Event) (s : Receiver) (gave : taken (events_of e) s ≡ event_of r') (room : i < length buf) where
+    (e : Option Carrier) (s : Receiver) (gave : taken (events_of e) s ≡ event_of r') (room : i < length buf) where
   event-is : events_of e ≡ take 1 (drop i r.logged)
   unfolding event_of
   event-is = ap (λ (x : Taken). x.event) gave ∙ ap (λ (x : Receiver). take 1 x.logged) t.state
@@ -109,7 +110,7 @@ read_is r bs = rw (min_comm (length r.waiting) (length bs), length-take (length 
 module _ (rx : Rx) (xs : List Float) (bs es : List ℕ)
     (a : Reply ℕ) (s : Receiver) (wrote-is : wrote a s ≡ written (receiver_of rx) xs)
     (n : ℕ) (r : Receiver) (bs' : List ℕ) (read-was : read_out n r bs' ≡ read_of s bs)
-    (m : ℕ) (q : Rx) (es' : List ℕ) (takes : Takes r es m (receiver_of q) es') (sound : RxSound q) where
+    (m : ℕ) (q : Rx) (es' : List ℕ) (takes : Takes r es m (receiver_of q) es') where
   abbrev gives-call : Called
   gives-call = called (receiver_of rx) xs (length bs) (length es)
 
@@ -142,7 +143,6 @@ module _ (rx : Rx) (xs : List Float) (bs es : List ℕ)
         state = left_is;
         bytes = ap (λ (x : ReadOut). x.buf) read-now;
         events = takes.buffer ∙ rw (takes.count, logged-is);
-        sound = sound;
       })
 
 -- ---- one call in the code: it lends the samples from p up to e, and bytes and events up to f and g; the call c of the definitions is run on these
@@ -210,7 +210,7 @@ module _ (p : Place) (k : Call) (xs : List Float) (bs es : List ℕ) (at_p : Wit
         (put-within es (map bit run.events) (drop (length (map bit run.events)) (drop p.events es)) p.events at_p.events)
 
     pub call-within : Within place_after xs bytes_after events-after
-    call-within = record { sound = calls.sound; read = e-fits; bytes = bytes_fit; events = events-fit }
+    call-within = record { read = e-fits; bytes = bytes_fit; events = events-fit }
 
     pub call-steps : (before behind ans' : List ℕ) → ans' ≡ before ++ (heard_of h ++ behind) → Stepped p place_after k xs bs bytes_after es events-after before behind ans'
     call-steps before behind ans' reply-is =

@@ -2,12 +2,12 @@
 use Prim.Native.Nat.{ℕ, suc, min, ◌+◌, ◌*◌, ◌-◌, ◌≤◌}
 use mathlib.Core.Path.{◌≡◌, refl, sym, ap, ◌∙◌}
 use mathlib.Core.Bool.{Bool, true, false}
-use mathlib.Core.List.{List, [], ◌∷◌, ◌++◌, append_assoc}
+use mathlib.Core.List.{List, [], ◌∷◌, ◌++◌}
 use native.Mathlib.Nat.{add-zero, sub-zero}
-use native.Mathlib.Numerals.{add-one}
 use native.Mathlib.Omega.{arith}
-use lib.ListN.{length, get_or, set, take, drop, length-append, length-drop, take-append-drop}
-use lib.Seq.{drop-drop, get_or-drop, length-take-le, sets-eq}
+use lib.ListN.{length, get_or, take, drop, length-drop, take-append-drop}
+use lib.Seq.{drop-drop, get_or-drop, length-take-le}
+use mir.Val.{bool_byte}
 use lib.Ieee.{Float}
 use Rattle.numeric.proofs.Parts.{part-next, part_left, put_front, put-behind}
 use Rattle.refusal.specs.Refusals.{Reply, given, refused, rate_refused, dsp_rate}
@@ -23,14 +23,13 @@ use Rattle.calls.specs.Script.{Outcome, bytes_for, Calls, reply, calls_for, sent
 use Rattle.calls.specs.ScriptSteps.{At, standing, called_at, Stepped}
 use Rattle.calls.specs.Send.{sends, send_run, sent, sender_run}
 
--- three stores
-pub set-three : {A : Type 0} (l : List A) (at : ℕ) (x y z : A) → at + 3 ≤ length l → set (set (set l at x) (at + 1) y) (at + 2) z ≡ take at l ++ ((x ∷ y ∷ z ∷ []) ++ drop (at + 3) l)
-set-three l at x y z h =
-    let two : at + 2 ≡ suc (suc at) = omega arith in
-    rw (add-one, two) (sets-eq (x ∷ y ∷ z ∷ []) l at h ∙ append_assoc (take at l) (x ∷ y ∷ z ∷ []) (drop (at + 3) l))
+-- a bit's number, as the conversion gives it
+pub byte-bit : (b : Bool) → bool_byte b ≡ bit b
+byte-bit true = refl
+byte-bit false = refl
 
 -- ---- one call in the code: it lends the bytes from p up to e and the places up to f; the call leaves part' in these
-module _ {S X : Type 0} (d : Calls S X) (p : At S) (kind n : ℕ) (bytes : List ℕ) (out : List X) (read-in : p.read ≤ length bytes) (written_in : p.written ≤ length out)
+module _ {S X : Type 0} (d : Calls S X) (p : At S) (kind n : ℕ) (bytes : List ℕ) (out : List X) (written_in : p.written ≤ length out)
     (e f : ℕ) (e-is : e ≡ p.read + min (bytes_for kind n) (length bytes - p.read)) (f-is : f ≡ p.written + min (d.places kind n) (length out - p.written))
     (r : Outcome S X) (gave : r ≡ d.called kind n p.state (take (e - p.read) (drop p.read bytes)) (take (f - p.written) (drop p.written out))) where
   abbrev behind-part : List X
@@ -42,25 +41,14 @@ module _ {S X : Type 0} (d : Calls S X) (p : At S) (kind n : ℕ) (bytes : List 
   gave-is : r ≡ called_at d p kind n bytes out
   gave-is = gave ∙ rw (part-next bytes p.read (bytes_for kind n) e e-is, part-next out p.written (d.places kind n) f f-is)
 
-  module _ (long : length out-after ≡ length out) where
+  module _ (long : length r.part ≡ length (take (f - p.written) (drop p.written out))) where
     end_is : p.written + length r.part ≡ f
     end_is =
-        omega (
-          arith,
-          long,
-          length-append (take p.written out) (r.part ++ behind-part),
-          length-append r.part behind-part,
-          length-take-le p.written out written_in,
-          length-drop (f - p.written) (drop p.written out),
-          length-drop p.written out,
-          written_in,
-        )
+        let room : f - p.written ≤ length (drop p.written out) = rw length-drop (omega (arith, f-is)) in
+        omega (arith, long, length-take-le (f - p.written) (drop p.written out) room, f-is)
 
     behind-is : behind-part ≡ drop f out
     behind-is = let z : p.written + (f - p.written) ≡ f = omega arith in drop-drop (f - p.written) p.written out ∙ ap (λ (k : ℕ). drop k out) z
-
-    pub call-within : (e ≤ length bytes) × (f ≤ length out-after)
-    call-within = (omega (arith, read-in), rw long (omega (arith, written_in)))
 
     pub call-steps : (before behind ans' : List ℕ) (waits : ℕ) → waits ≡ bit (d.waits r.state) → ans' ≡ before ++ ((r.number ∷ r.value ∷ waits ∷ []) ++ behind)
         → Stepped d p (standing r.state e f) kind n bytes out out-after before behind ans'

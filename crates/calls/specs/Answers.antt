@@ -13,6 +13,11 @@ abbrev pub count_in : Reply ℕ → ℕ
 count_in (given n) = n
 count_in (refused k) = 0
 
+-- the same answer, without what it gives
+abbrev pub accepted_in : {A : Type 0} → Reply A → Reply Unit
+accepted_in (given n) = given tt
+accepted_in (refused k) = refused k
+
 -- the two numbers of a call's answer
 abbrev pub reply : Reply ℕ → List ℕ
 reply r = number_in r ∷ count_in r ∷ []

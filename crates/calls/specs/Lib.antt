@@ -8,8 +8,6 @@ pub mod ReceiveSteps
 pub mod Script
 pub mod ScriptSteps
 pub mod Send
-pub mod SendSteps
 pub mod Table
-pub mod TableSteps
 pub mod Shown
 pub mod Frames

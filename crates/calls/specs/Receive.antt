@@ -1,7 +1,7 @@
 -- Whole lists of calls of the receiver, each list from a fresh state. Assumes nothing.
 use Rattle.std.specs.Prelude.{ℕ, zero, suc, min, ◌+◌, ◌/◌, ◌*◌, Bool, List, [], ◌∷◌, ◌++◌, map, length, get_or, take, drop, Float}
 use Rattle.std.specs.Prelude.{if◌then◌else◌}
-use Rattle.refusal.specs.Refusals.{rate_refused, refused}
+use Rattle.refusal.specs.Refusals.{rate_refused}
 use Rattle.modem.specs.Rx.{Receiver, receiver, fresh_receiver, written, carrier_of, errors_of}
 use Rattle.calls.specs.Answers.{number_in, count_in, bit}
 use Rattle.calls.specs.Roles.{role_of}

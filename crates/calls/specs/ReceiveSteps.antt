@@ -1,6 +1,6 @@
 -- One call of the receiver between two places of a list of calls, as the code holds them. Assumes nothing.
 use Rattle.std.specs.Prelude.{ℕ, min, ◌+◌, ◌≤◌, ◌≡◌, List, ◌++◌, map, length, take, drop, Float}
-use Rattle.modem.specs.RxRep.{receiver_of, RxSound}
+use Rattle.modem.specs.RxRep.{receiver_of}
 use Rattle.modem.specs.Rx.{Receiver}
 use Rattle.modem.specs.declared.rx.Rx.{Rx}
 use Rattle.calls.specs.Receive.{Called, called, relieved, call_reply}
@@ -21,11 +21,9 @@ pub record Calls (c : Called) (bs es : List ℕ) (h : Heard) (s : Rx) (bs' es' :
   pub state : receiver_of s ≡ c.state
   pub bytes : bs' ≡ c.bytes ++ drop (length c.bytes) bs
   pub events : es' ≡ map bit c.events ++ drop (length c.events) es
-  pub sound : RxSound s
 
--- a place within the samples, the bytes and the events, with a sound state
+-- a place within the samples, the bytes and the events
 pub record Within (p : Place) (xs : List Float) (bs es : List ℕ) : Type 0 where
-  pub sound : RxSound p.state
   pub read : p.read ≤ length xs
   pub bytes : p.bytes ≤ length bs
   pub events : p.events ≤ length es

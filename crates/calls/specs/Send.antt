@@ -10,6 +10,8 @@ use Rattle.calls.specs.Answers.{number_in, count_in}
 use Rattle.calls.specs.Roles.{role_of}
 use Rattle.calls.specs.Resample.{Run, ran}
 use Rattle.calls.specs.Script.{Outcome, outcome, unless_refused, Calls, calls_for, sent_from, sender_after}
+use Rattle.calls.specs.declared.send.Kind.{Kind}
+use Rattle.calls.specs.declared.send.Kind.TheVariants as kinds
 
 -- ---- one call
 -- `write` and `write_idle_mark`, `set_amplitude`, `read`, whose value is the number of places filled, and `samples_for_bits`
@@ -24,6 +26,15 @@ of_reading r n = outcome (number_in r.answer) (unless_refused r.answer n) r.stat
 
 abbrev pub of_duration : Reply ℕ → Sender → List Float → Outcome Sender Float
 of_duration d s part = outcome (number_in d) (count_in d) s part
+
+-- the kind of a call that a number says
+abbrev pub kind_of : ℕ → Kind
+kind_of n =
+    if eqb n 0 then kinds.Write
+    else if eqb n 1 then kinds.IdleMark
+    else if eqb n 2 then kinds.Amplitude
+    else if eqb n 3 then kinds.Read
+    else kinds.SamplesForBits
 
 -- the f32 whose bits are the lowest 32 of n
 abbrev pub amplitude_in : ℕ → Float

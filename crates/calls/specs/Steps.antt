@@ -1,22 +1,15 @@
 -- One call between two places of a list of calls, as the code holds them. Assumes nothing.
 use Rattle.std.specs.Prelude.{ℕ, ◌+◌, ◌≤◌, ◌≡◌, List, ◌++◌, length, take, drop, Float}
-use Rattle.refusal.specs.Refusals.{count_of}
-use Rattle.resampling.specs.Resample.{Outcome, outcome}
-use Rattle.resampling.specs.ResampleRep.{state_of, Sound}
+use Rattle.resampling.specs.Resample.{Outcome}
+use Rattle.resampling.specs.ResampleRep.{state_of}
 use Rattle.calls.specs.Answers.{count_in, reply}
 use Rattle.calls.specs.Resample.{called, samples_for}
-use Rattle.calls.specs.declared.resample.Called.{Called}
 use Rattle.calls.specs.declared.resample.Place.{Place}
 
--- a place within the input and the output, with a sound state
+-- a place within the input and the output
 pub record Within (p : Place) (xs out : List Float) : Type 0 where
-  pub sound : Sound p.state
   pub read : p.read ≤ length xs
   pub written : p.written ≤ length out
-
--- what the code answers for a call, and the output that it leaves
-abbrev pub outcome_of : Called → List Float → Outcome
-outcome_of c out = outcome (count_of c.answer) (state_of c.state) out
 
 -- what the call at p gives
 abbrev pub outcome_at : Place → ℕ → ℕ → List Float → List Float → Outcome

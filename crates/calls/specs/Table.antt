@@ -7,6 +7,8 @@ use Rattle.calls.specs.Answers.{number_in}
 use Rattle.calls.specs.Roles.{role_of}
 use Rattle.calls.specs.Resample.{Run}
 use Rattle.calls.specs.Script.{Outcome, outcome, unless_refused, Calls, calls_for, sent_from}
+use Rattle.calls.specs.declared.table.TableKind.{TableKind}
+use Rattle.calls.specs.declared.table.TableKind.TheVariants as kinds
 
 -- ---- one call
 -- `write` and `write_idle_mark`, and `read`, whose value is the number of places filled
@@ -15,6 +17,10 @@ of_table_queueing q part = outcome (number_in q.answer) 0 q.state part
 
 abbrev pub of_table_reading : TableReading → ℕ → Outcome TableSender ℤ
 of_table_reading r n = outcome (number_in r.answer) (unless_refused r.answer n) r.state r.out
+
+-- the kind of a call that a number says
+abbrev pub table_kind_of : ℕ → TableKind
+table_kind_of n = if eqb n 0 then kinds.Write else if eqb n 1 then kinds.IdleMark else kinds.Read
 
 -- the call of this kind with the number n, lent these bytes and these places
 unfoldable pub table_called : ℕ → ℕ → TableSender → List ℕ → List ℤ → Outcome TableSender ℤ

@@ -5,18 +5,10 @@ ghost use Rattle.calls.specs.Answers.{bit};
 ghost use Rattle.calls.specs.Frames.{mark_in, frames_run, deframer_in, heard_numbers, deframer_numbers, push_reply, deframe_run};
 ghost use Rattle.calls.specs.Resample.{ran};
 
-use crate::answers::one_if;
+use crate::answers::put_row;
 use framing::frame::{Deframer, Heard, frame_byte};
-use numeric::ends::smaller;
 
 // ---- framing
-
-// 1 for mark, 0 for space.
-fn bit_number(mark: bool) -> u8
-    ensures { result ≡ bit mark }
-{
-    if mark { 1 } else { 0 }
-}
 
 // Writes the ten bits of a byte's frame at `at`.
 fn put_frame(bits: &mut [u8], at: usize, b: u8)
@@ -24,10 +16,8 @@ fn put_frame(bits: &mut [u8], at: usize, b: u8)
     ensures { bits.new ≡ take at bits.old ++ (map bit (frame_of b) ++ drop (at + 10) bits.old) }
 {
     let frame = frame_byte(b);
-    let mut i = 0;
-    while i < 10 {
-        bits[at + i] = bit_number(frame[i]);
-        i += 1;
+    for i in 0..10 {
+        bits[at + i] = u8::from(frame[i]);
     }
 }
 
@@ -35,18 +25,16 @@ fn put_frame(bits: &mut [u8], at: usize, b: u8)
 pub fn frame_bytes(bytes: &[u8], bits: &mut [u8]) -> usize
     ensures { ran result [] bits.new ≡ frames_run bytes.now bits.old }
 {
-    let frames = smaller(bytes.len(), bits.len() / 10);
-    let mut i = 0;
-    while i < frames {
+    let frames = bytes.len().min(bits.len() / 10);
+    for i in 0..frames {
         put_frame(bits, 10 * i, bytes[i]);
-        i += 1;
     }
     frames
 }
 
 // ---- deframing
 
-// What a bit completed: 1 and the byte, 0 where it waits, 2 at a bad stop.
+// What a bit completed, in numbers of the C interface: 1 and the byte, 0 where it waits, 2 at a bad stop.
 #[derive(Clone, Copy)]
 struct Yielded {
     kind: u8,
@@ -69,13 +57,15 @@ fn tell_pushed(answers: &mut [u64], at: usize, y: Yielded, d: Deframer)
     ensures { answers.new
         ≡ take at answers.old ++ ((y.kind ∷ y.byte ∷ deframer_numbers d) ++ drop (at + 6) answers.old) }
 {
-    let in_frame = one_if(d.in_frame);
-    answers[at] = y.kind as u64;
-    answers[at + 1] = y.byte as u64;
-    answers[at + 2] = in_frame as u64;
-    answers[at + 3] = d.bit_count as u64;
-    answers[at + 4] = d.acc as u64;
-    answers[at + 5] = d.errors as u64;
+    let row = [
+        y.kind as u64,
+        y.byte as u64,
+        u64::from(d.in_frame),
+        d.bit_count as u64,
+        d.acc as u64,
+        d.errors as u64,
+    ];
+    put_row(answers, at, &row);
 }
 
 // One bit, and its six numbers at `at` of the answers.
@@ -85,11 +75,8 @@ fn one_bit(d: Deframer, number: u8, answers: &mut [u64], at: usize) -> Deframer
     ensures answers_after { answers.new ≡ take at answers.old ++ (push_reply (push_bit d (mark_in number)) ++ drop (at + 6) answers.old) }
 {
     let p = d.push_bit(is_yes(number as u32));
-    let heard = p.heard;
-    let state = p.state;
-    let y = yield_of(heard);
-    tell_pushed(answers, at, y, state);
-    state
+    tell_pushed(answers, at, yield_of(p.heard), p.state);
+    p.state
 }
 
 // 0 is no, any other number yes.
@@ -103,12 +90,10 @@ fn is_yes(number: u32) -> bool
 fn all_bits(start: Deframer, bits: &[u8], answers: &mut [u64]) -> usize
     ensures { ran result [] answers.new ≡ deframe_run start bits.now answers.old }
 {
-    let count = smaller(bits.len(), answers.len() / 6);
+    let count = bits.len().min(answers.len() / 6);
     let mut d = start;
-    let mut i = 0;
-    while i < count {
+    for i in 0..count {
         d = one_bit(d, bits[i], answers, 6 * i);
-        i += 1;
     }
     count
 }

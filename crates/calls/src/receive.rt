@@ -1,15 +1,14 @@
 // Lists of calls of the receiver.
 ghost use Rattle.std.specs.Prelude.{◌≡◌, ◌+◌, ◌*◌, ◌≤◌, length, take, drop};
-ghost use Rattle.modem.specs.RxRep.{receiver_of, RxSound};
-ghost use Rattle.calls.specs.Receive.{called, calls_for, ran, received_from, receive_run};
+ghost use Rattle.modem.specs.RxRep.{receiver_of};
+ghost use Rattle.calls.specs.Receive.{called, call_in, calls_for, ran, received_from, receive_run};
 ghost use Rattle.calls.specs.ReceiveSteps.{Takes, Calls, Within, Stepped};
 
-use crate::answers::{Heard, numbers_of, one_if, tell_heard};
+use crate::answers::{Heard, numbers_of, tell_heard};
 use crate::events::{event_byte, events_in};
 use crate::roles::role_of;
 use modem::Rx;
-use numeric::ends::{part_end, smaller};
-use refusal::Acceptance;
+use numeric::ends::part_end;
 
 // How many events were taken, and the receiver.
 #[derive(Clone, Copy)]
@@ -20,22 +19,21 @@ struct TakenEvents {
 
 // As many events as wait and have room in buf, oldest first.
 fn take_events(rx: Rx, buf: &mut [u8]) -> TakenEvents
-    requires { RxSound rx }
-    ensures { Takes (receiver_of rx) buf.old result.count (receiver_of result.state) buf.new × RxSound result.state }
+    ensures { Takes (receiver_of rx) buf.old result.count (receiver_of result.state) buf.new }
 {
     let mut state = rx;
-    let mut i = 0;
-    while i < buf.len() {
+    for i in 0..buf.len() {
         let t = state.events();
-        let event = t.event;
         state = t.state;
-        if events_in(event) == 0 {
+        if events_in(t.event) == 0 {
             return TakenEvents { count: i, state };
         }
-        buf[i] = event_byte(event);
-        i += 1;
+        buf[i] = event_byte(t.event);
     }
-    TakenEvents { count: i, state }
+    TakenEvents {
+        count: buf.len(),
+        state,
+    }
 }
 
 // A call's answer, and the receiver.
@@ -47,13 +45,11 @@ pub struct Called {
 
 // A write, a read into the whole of bytes, and events into the whole of events.
 pub fn make_call(rx: Rx, samples: &[f32], bytes: &mut [u8], events: &mut [u8]) -> Called
-    requires { RxSound rx }
     ensures { Calls (called (receiver_of rx) samples.now (length bytes.old) (length events.old))
         bytes.old events.old result.answer result.state bytes.new events.new }
 {
     let w = rx.write(samples);
-    let given = w.answer;
-    let numbers = numbers_of(given);
+    let numbers = numbers_of(w.answer);
     let heard = w.state;
     let d = heard.read(bytes);
     let read = d.state;
@@ -63,7 +59,7 @@ pub fn make_call(rx: Rx, samples: &[f32], bytes: &mut [u8], events: &mut [u8]) -
         number: numbers.number,
         bytes: d.count,
         events: t.count,
-        carrier: one_if(state.carrier_detected()),
+        carrier: u32::from(state.carrier_detected()),
         errors: state.framing_errors(),
         bad_stops: numbers.count,
     };
@@ -87,6 +83,18 @@ pub struct Call {
     pub events: u32,
 }
 
+// The i-th call of a script.
+fn call_in(script: &[u32], i: usize) -> Call
+    requires { 3 * i + 3 ≤ length script.now }
+    ensures { result ≡ call_in script.now i }
+{
+    Call {
+        samples: script[3 * i],
+        bytes: script[3 * i + 1],
+        events: script[3 * i + 2],
+    }
+}
+
 // One call, and its six numbers at `at` of the answers.
 fn one_call(
     p: Place,
@@ -102,10 +110,12 @@ fn one_call(
         events.new (take at answers.old) (drop (at + 6) answers.old) answers.new }
     ensures within { Within result samples.now bytes.new events.new }
 {
-    let state = p.state;
-    let read = p.read;
-    let b = p.bytes;
-    let e = p.events;
+    let Place {
+        state,
+        read,
+        bytes: b,
+        events: e,
+    } = p;
     let end = part_end(read, k.samples, samples.len());
     let b_end = part_end(b, k.bytes, bytes.len());
     let e_end = part_end(e, k.events, events.len());
@@ -117,9 +127,8 @@ fn one_call(
     );
     let reply = c.answer;
     tell_heard(answers, at, reply);
-    let next = c.state;
     Place {
-        state: next,
+        state: c.state,
         read: end,
         bytes: b + reply.bytes,
         events: e + reply.events,
@@ -135,27 +144,27 @@ fn all_calls(
     events: &mut [u8],
     answers: &mut [u64],
 ) -> usize
-    requires { RxSound state }
     ensures { ran result bytes.new events.new answers.new
         ≡ received_from (calls_for script.now answers.old)
         (receiver_of state) samples.now script.now bytes.old events.old answers.old }
 {
-    let calls = smaller(script.len() / 3, answers.len() / 6);
+    let calls = (script.len() / 3).min(answers.len() / 6);
     let mut place = Place {
         state,
         read: 0,
         bytes: 0,
         events: 0,
     };
-    let mut i = 0;
-    while i < calls {
-        let k = Call {
-            samples: script[3 * i],
-            bytes: script[3 * i + 1],
-            events: script[3 * i + 2],
-        };
-        place = one_call(place, k, samples, bytes, events, answers, 6 * i);
-        i += 1;
+    for i in 0..calls {
+        place = one_call(
+            place,
+            call_in(script, i),
+            samples,
+            bytes,
+            events,
+            answers,
+            6 * i,
+        );
     }
     calls
 }
@@ -176,7 +185,7 @@ pub fn received_from_fresh(
     let answer = made.answer;
     let state = made.state;
     match answer {
-        Acceptance::Refused(_) => 0,
-        Acceptance::Accepted => all_calls(state, samples, script, bytes, events, answers),
+        Err(_) => 0,
+        Ok(()) => all_calls(state, samples, script, bytes, events, answers),
     }
 }

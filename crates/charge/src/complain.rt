@@ -22,19 +22,5 @@ pub fn of_output() {
 
 // The number of a refusal, and why.
 pub fn of_refusal(r: Refusal) {
-    io::write_all(2, b"charge: ");
-    io::print_decimal(2, r.number() as u64);
-    match r {
-        Refusal::Rate => {
-            io::write_all(2, b": RATE is a number from 8000 to 48000");
-        }
-        Refusal::TooManyCalls => {
-            io::write_all(2, b": a month has at most 5000 calls");
-        }
-        Refusal::CallTooLong => {
-            io::write_all(2, b": a call has at most 4294967296 samples");
-        }
-        _ => {}
-    }
-    io::write_all(2, b"\n");
+    console::complain_of(b"charge", r);
 }

@@ -9,7 +9,7 @@
 mod bill;
 mod complain;
 
-use console::{Input, number_word, read_numbers, word_count};
+use console::{InputError, number_word, read_numbers, word_count};
 
 // A RATE that is no number up to 65,535 is asked for as 0, which is refused with 1. Memory holds one number more than a month may have
 // calls, so that a longer list is refused with 44.
@@ -20,10 +20,9 @@ fn main(rt: HostRuntime) {
     }
     let rate = number_word(&rt, 1);
     let mut calls = [0u64; 5001];
-    let input = read_numbers(&mut rt.stdin(), &mut calls);
-    match input {
-        Input::Numbers(n) => bill::tell(rate as u32, &calls, n),
-        Input::WrongLine(line) => complain::of_line(line),
-        Input::Unreadable => complain::of_input(),
+    match read_numbers(&mut rt.stdin(), &mut calls) {
+        Ok(n) => bill::tell(rate as u32, &calls, n),
+        Err(InputError::WrongLine(line)) => complain::of_line(line),
+        Err(InputError::Unreadable) => complain::of_input(),
     }
 }

@@ -9,7 +9,8 @@ use lib.Seq.{drop-cons, drop-length}
 use native.Mathlib.Nat.{min-eq_left, min-eq_right}
 use native.Mathlib.Numerals.{add-one}
 use native.Mathlib.Omega.{arith}
-use Rattle.std.specs.Prelude.{if◌then◌else◌}
+use Rattle.std.proofs.lemmas.Option.{cond_some}
+use Rattle.std.specs.Prelude.{Some, None, if◌then◌else◌, Result, Ok, Err, IfOk}
 use Rattle.happenings.specs.Happening.{typed}
 use Rattle.happenings.specs.declared.happening.Happening.{Happening}
 use Rattle.happenings.specs.declared.happening.Happening.TheVariants.{Byte}
@@ -17,23 +18,23 @@ use Rattle.tide.specs.Decoder as plain
 use Rattle.tide.specs.DecoderRep.{decoder_of, most_count, holding, Sound, is_end, Stepped}
 use Rattle.tide.specs.Decoder.{fresh_decoder}
 use Rattle.tide.proofs.DecoderLaws.{took_all-append, lines_in-append}
-use Rattle.tide.proofs.DecoderRepLaws.{min-by, holding-heard, holding-lines, unheld}
+use Rattle.tide.proofs.DecoderRepLaws.{min-by, holding-heard, holding-lines, unheld, ended_none}
 use Rattle.tide.specs.declared.decoder.Step.{Step}
 use Rattle.console.specs.Text.{Taken, Read, ReadSome, Judges}
 use Rattle.console.specs.declared.text.Text.{Text}
 
-pub taken-end : (t : Text) (c k : ℕ) (s : Step) → Stepped t.decoder (plain.move_at (decoder_of t.decoder) (Byte c)) s → s.ended ≡ true → k ≡ min (t.lines + 1) most_count
+pub taken-end : (t : Text) (c k a : ℕ) (s : Step) → Stepped t.decoder (plain.move_at (decoder_of t.decoder) (Byte c)) s → s.answer ≡ Some a → k ≡ min (t.lines + 1) most_count
     → (told : Bool) → Taken t c (record { decoder = s.decoder; lines = k; told = told })
 unfolding plain.took
-taken-end t c k s h e n told =
-    let b : is_end (plain.move_at (decoder_of t.decoder) (Byte c)) ≡ true = sym h.ended ∙ e in
-    record { decoder = h.same; lines = rw b n; sound = h.sound }
+taken-end t c k a s h e n told =
+    let b = cond_some _ _ a (sym h.answer ∙ e) in
+    record { decoder = h.same; lines = rw b.0 n; sound = h.sound }
 
-pub taken-on : (t : Text) (c : ℕ) (s : Step) → Stepped t.decoder (plain.move_at (decoder_of t.decoder) (Byte c)) s → s.ended ≡ false
+pub taken-on : (t : Text) (c : ℕ) (s : Step) → Stepped t.decoder (plain.move_at (decoder_of t.decoder) (Byte c)) s → s.answer ≡ None
     → Taken t c (record { decoder = s.decoder; lines = t.lines; told = t.told })
 unfolding plain.took
 taken-on t c s h e =
-    let b : is_end (plain.move_at (decoder_of t.decoder) (Byte c)) ≡ false = sym h.ended ∙ e in
+    let b = ended_none _ _ (sym e ∙ h.answer) in
     record { decoder = h.same; lines = rw b refl; sound = h.sound }
 
 -- part of the way through the block
@@ -90,7 +91,7 @@ going_end t bs i r g p q m =
     let k : drop i bs ≡ [] = rw (e, drop-length bs) refl in
     let z : r.lines + 0 ≤ most_count = omega arith in
     record {
-      decoder = sym (unheld r.decoder g.sound) ∙ (rw k at g.decoder);
+      decoder = sym (unheld r.decoder) ∙ (rw k at g.decoder);
       lines = (let w : r.lines ≡ r.lines + 0 = omega arith in w) ∙ (sym (min-eq_left z) ∙ (rw k at g.lines));
       sound = g.sound;
     }
@@ -139,3 +140,9 @@ judges station t r e z h =
       decoder = h.read.decoder ∙ rw e refl;
       lines = h.read.lines ∙ rw (e, z) (ap (λ (m : ℕ). min m most_count) k);
     }
+
+-- where no read failed
+pub judges_ok : {E : Type 0} (station : ℕ) (t : Text) (a : Result Text E) → decoder_of t.decoder ≡ fresh_decoder station → t.lines ≡ 0 → IfOk a (ReadSome t)
+    → IfOk a (Judges station)
+judges_ok station t (Ok r) e z h = judges station t r e z h
+judges_ok station t (Err x) e z h = tt

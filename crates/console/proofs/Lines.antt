@@ -14,12 +14,13 @@ use Rattle.numeric.proofs.Loops.{fold_step, fold_end}
 use Rattle.tide.specs.DecoderRep.{most_count}
 use Rattle.tide.proofs.DecoderRepLaws.{min-by}
 use Rattle.console.proofs.Blocks.{min-add}
-use Rattle.console.specs.Numbers.{Reader, reader, grown, ended, took, input_by, input_of, Holds, Steps, StepsOn, StepsSome, Reads}
+use Rattle.console.specs.Numbers.{Reader, reader, grown, ended, took, input_by, input_of, Holds, Steps, StepsOn, StepsSome, StepsAll, Reads}
 use Rattle.console.specs.declared.numbers.Line.{Line}
 use Rattle.console.specs.declared.numbers.Line.TheVariants.{Blank, Says, Wrong}
 use Rattle.console.specs.declared.numbers.Numbers.{Numbers}
-use Rattle.console.specs.declared.numbers.Input.{Input}
-use Rattle.console.specs.declared.numbers.Input.TheVariants as input
+use Rattle.console.specs.declared.numbers.InputError.{InputError}
+use Rattle.console.specs.declared.numbers.InputError.TheVariants.{WrongLine, Unreadable}
+use Rattle.std.specs.Prelude.{Result, Ok, Err, IsErr}
 
 -- ---- what is stored: one number more stands behind those stored, and where the count holds there is no room any more
 sets-snoc : (l : List ℕ) (i : ℕ) (vs : List ℕ) (v : ℕ) → sets l i (vs ++ (v ∷ [])) ≡ set (sets l i vs) (i + length vs) v
@@ -64,6 +65,12 @@ end-wrong t out e =
           let f : ended p.numbers p.line ≡ reader p.numbers Wrong = ap (λ (l : Line). ended p.numbers l) (sym h.line) ∙ e p.numbers in
           rw f (record { count = h.count; line = refl; stored = h.stored });
     }
+
+-- a line that says no number is wrong once it is ended
+pub not-says : (l : Line) → ((v : ℕ) → l ≡ Says v → ⊥) → (ns : List ℕ) → ended ns l ≡ reader ns Wrong
+not-says Blank n ns = refl
+not-says (Says v) n ns = absurd (n v refl)
+not-says Wrong n ns = refl
 
 pub char-on : (t : Numbers) (out : List ℕ) (c : ℕ) (l : Line) → eqb c 10 ≡ false → l ≡ grown t.line c → Steps t out c (record { count = t.count; line = l }) out
 unfolding took
@@ -125,23 +132,34 @@ some_more t out r out' u out'' a b =
       };
     }
 
+-- where a read failed, none are answered
+pub failed : {E : Type 0} (a : Result Numbers E) (t : Numbers) (out : List ℕ) (r : Numbers) (out' : List ℕ) → IsErr a → StepsSome t out r out' → StepsAll t out a out'
+failed (Ok x) t out r out' h s = absurd (let z : ◌≡◌ {A = ℕ} 0 1 = cc in omega arith)
+failed (Err e) t out r out' h s = record { numbers = r; some = s; answer = tt }
+
+-- where no read failed, the numbers are those answered
+pub answered : {E : Type 0} {a : Result Numbers E} (t : Numbers) (out : List ℕ) (r : Numbers) (out' : List ℕ) → a ≡ Ok r → StepsAll t out a out' → StepsSome t out r out'
+answered t out r out' e s =
+    let f : r ≡ s.numbers = rw e at s.answer in
+    rw f s.some
+
 -- ---- the whole of the text
 fresh_holds : (out : List ℕ) → Holds out (reader [] Blank) (record { count = 0; line = Blank }) out
 fresh_holds out = record { count = refl; line = refl; stored = refl }
 
 held_by : (n : ℕ) (l : Line) → input_by (min n most_count) l ≡ input_by n l
-held_by n Blank = ap input.Numbers (min-eq_left (min-le_right n most_count))
-held_by n (Says v) = ap input.WrongLine (min-add n 1 most_count)
-held_by n Wrong = ap input.WrongLine (min-add n 1 most_count)
+held_by n Blank = ap Ok (min-eq_left (min-le_right n most_count))
+held_by n (Says v) = ap (λ (k : ℕ). Err (WrongLine k)) (min-add n 1 most_count)
+held_by n Wrong = ap (λ (k : ℕ). Err (WrongLine k)) (min-add n 1 most_count)
 
 held-input : (lent : List ℕ) (p : Reader) (t : Numbers) (out : List ℕ) → Holds lent p t out → input_by t.count t.line ≡ input_of p
 held-input lent p t out h = rw (h.count, h.line) (held_by (length p.numbers) p.line)
 
-pub reads_none : (lent : List ℕ) (t : Numbers) (out : List ℕ) → StepsSome (record { count = 0; line = Blank }) lent t out → Reads lent input.Unreadable out
+pub reads_none : (lent : List ℕ) (t : Numbers) (out : List ℕ) → StepsSome (record { count = 0; line = Blank }) lent t out → Reads lent (Err Unreadable) out
 reads_none lent t out s =
     record { text = s.chars; stored = (s.steps.holds lent (reader [] Blank) (fresh_holds lent)).stored; answer = λ n. absurd (n refl) }
 
-pub reads_all : (lent : List ℕ) (t : Numbers) (out : List ℕ) (r : Input) → StepsSome (record { count = 0; line = Blank }) lent t out → r ≡ input_by t.count t.line → Reads lent r out
+pub reads_all : (lent : List ℕ) (t : Numbers) (out : List ℕ) (r : Result ℕ InputError) → StepsSome (record { count = 0; line = Blank }) lent t out → r ≡ input_by t.count t.line → Reads lent r out
 reads_all lent t out r s e =
     let h = s.steps.holds lent (reader [] Blank) (fresh_holds lent) in
     record { text = s.chars; stored = h.stored; answer = λ n. e ∙ held-input lent (fold took (reader [] Blank) s.chars) t out h }

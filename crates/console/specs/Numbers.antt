@@ -1,5 +1,5 @@
 -- Numbers as text, one a line: what a text is read as, and how the code holds it. Assumes nothing.
-use Rattle.std.specs.Prelude.{ℕ, ◌+◌, ◌-◌, ◌*◌, min, ◌≡◌, List, [], ◌∷◌, ◌++◌, ltb, eqb, length}
+use Rattle.std.specs.Prelude.{ℕ, ◌+◌, ◌-◌, ◌*◌, min, ◌≡◌, List, [], ◌∷◌, ◌++◌, ltb, eqb, length, Option, Some, None, Result, Ok, Err, IfOk}
 use Rattle.std.proofs.lemmas.List.Edits.{sets}
 use Rattle.std.specs.Prelude.{if◌then◌else◌}
 use Rattle.numeric.specs.Fold.{fold}
@@ -7,8 +7,8 @@ use Rattle.tide.specs.DecoderRep.{most_count}
 use Rattle.console.specs.declared.numbers.Line.{Line}
 use Rattle.console.specs.declared.numbers.Line.TheVariants.{Blank, Says, Wrong}
 use Rattle.console.specs.declared.numbers.Numbers.{Numbers}
-use Rattle.console.specs.declared.numbers.Input.{Input}
-use Rattle.console.specs.declared.numbers.Input.TheVariants as input
+use Rattle.console.specs.declared.numbers.InputError.{InputError}
+use Rattle.console.specs.declared.numbers.InputError.TheVariants.{WrongLine, Unreadable}
 
 -- the numbers of the lines ended, in order, and what is known of the line behind them
 pub record Reader : Type 0 where
@@ -47,12 +47,12 @@ abbrev pub read_text : List ℕ → Reader
 read_text text = fold took (reader [] Blank) text
 
 -- what is answered at the end of the text: its numbers, or the first line that says none, which a last line without 0A is too
-abbrev pub input_by : ℕ → Line → Input
-input_by n Blank = input.Numbers (min n most_count)
-input_by n (Says value) = input.WrongLine (min (n + 1) most_count)
-input_by n Wrong = input.WrongLine (min (n + 1) most_count)
+abbrev pub input_by : ℕ → Line → Result ℕ InputError
+input_by n Blank = Ok (min n most_count)
+input_by n (Says value) = Err (WrongLine (min (n + 1) most_count))
+input_by n Wrong = Err (WrongLine (min (n + 1) most_count))
 
-abbrev pub input_of : Reader → Input
+abbrev pub input_of : Reader → Result ℕ InputError
 input_of r = input_by (length r.numbers) r.line
 
 -- ---- how the code holds it: a count that holds at its most, the line, and the numbers stored from the front of the lent memory on
@@ -73,8 +73,20 @@ pub record StepsSome (t : Numbers) (out : List ℕ) (r : Numbers) (out' : List �
   pub chars : List ℕ
   pub steps : StepsOn t out chars r out'
 
+-- one read: the numbers that it answers, or where it answers none, those of before
+abbrev pub numbers_after : {E : Type 0} → Numbers → Result (Option Numbers) E → Numbers
+numbers_after t (Ok (Some r)) = r
+numbers_after t (Ok None) = t
+numbers_after t (Err e) = t
+
+-- read after read: there are numbers, those of what was read, and where no read failed they are answered
+pub record StepsAll {E : Type 0} (t : Numbers) (out : List ℕ) (a : Result Numbers E) (out' : List ℕ) : Type 0 where
+  pub numbers : Numbers
+  pub some : StepsSome t out numbers out'
+  pub answer : IfOk a (λ r. r ≡ numbers)
+
 -- all of standard input: there is a text, that which was read; its numbers are stored, and where it could be read it is answered
-pub record Reads (lent : List ℕ) (r : Input) (out : List ℕ) : Type 0 where
+pub record Reads (lent : List ℕ) (r : Result ℕ InputError) (out : List ℕ) : Type 0 where
   pub text : List ℕ
   pub stored : out ≡ sets lent 0 (read_text text).numbers
-  pub answer : (r ≡ input.Unreadable → ⊥) → r ≡ input_of (read_text text)
+  pub answer : (r ≡ Err Unreadable → ⊥) → r ≡ input_of (read_text text)

@@ -1,9 +1,8 @@
 -- The words of a command. Assumes nothing.
-use Rattle.std.specs.Prelude.{ℕ, ◌+◌, ◌-◌, ◌*◌, ◌≡◌, List, [], ◌∷◌, ltb}
+use Rattle.bell103.specs.declared.Role.{Role}
+use Rattle.std.specs.Prelude.{ℕ, ◌+◌, ◌-◌, ◌*◌, ◌≡◌, List, [], ◌∷◌, ltb, Option, Some, None}
 use Rattle.std.specs.Prelude.{if◌then◌else◌}
 use Rattle.bell103.specs.declared.Role.TheVariants.{Originate, Answer}
-use Rattle.console.specs.declared.words.Named.{Named}
-use Rattle.console.specs.declared.words.Named.TheVariants as named
 
 -- a number with one digit more; one past `most` where that is none, or more than `most`
 unfoldable pub with_digit : ℕ → ℕ → ℕ → ℕ
@@ -22,6 +21,11 @@ decimal_from most value (c ∷ cs) = if ltb most (with_digit most value c) then 
 unfoldable pub up_to_most : ℕ → List ℕ → ℕ
 up_to_most most word = decimal_from most 0 word
 
+-- how the code answers it: the number, or none where there is none up to `most`
+abbrev pub or_past : ℕ → Option ℕ → ℕ
+or_past most None = most + 1
+or_past most (Some n) = n
+
 -- of a word of a command; 0 where it says none up to 65,535
 unfoldable pub decimal_of : List ℕ → ℕ
 decimal_of word = if ltb 65535 (up_to_most 65535 word) then 0 else up_to_most 65535 word
@@ -35,7 +39,7 @@ abbrev pub answer : List ℕ
 answer = 0x61 ∷ 0x6E ∷ 0x73 ∷ 0x77 ∷ 0x65 ∷ 0x72 ∷ []
 
 -- what a word says of the role: originate, answer, or neither
-pub record Says (word : List ℕ) (r : Named) : Type 0 where
-  pub dials : word ≡ originate → r ≡ named.Role Originate
-  pub picks_up : word ≡ answer → r ≡ named.Role Answer
-  pub other : (word ≡ originate → ⊥) → (word ≡ answer → ⊥) → r ≡ named.Unknown
+pub record Says (word : List ℕ) (r : Option Role) : Type 0 where
+  pub dials : word ≡ originate → r ≡ Some Originate
+  pub picks_up : word ≡ answer → r ≡ Some Answer
+  pub other : (word ≡ originate → ⊥) → (word ≡ answer → ⊥) → r ≡ None

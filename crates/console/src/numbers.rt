@@ -1,12 +1,11 @@
 // Numbers as text: decimal, one a line, each line ended by 0A. They are stored in lent memory, and counted where they find
 // no room there.
 ghost use Rattle.std.specs.Prelude.{◌≡◌, set};
-ghost use Rattle.console.specs.Numbers.{digit_after, grown, Steps, StepsOn, StepsSome, Reads, input_by};
+ghost use Rattle.console.specs.Numbers.{digit_after, grown, Steps, StepsOn, StepsSome, StepsAll, numbers_after, Reads, input_by};
 
-use crate::text::one_more;
-use std::io::Read;
+use std::io::{Error, Read};
 
-// What is known of a line that is not ended.
+// What is known of a line that is not ended. No Option: an empty line and a wrong one both say no number, and differ.
 #[derive(Clone, Copy)]
 pub enum Line {
     // Nothing of it was read.
@@ -24,11 +23,9 @@ struct Numbers {
     line: Line,
 }
 
-// What the input says.
+// Why the input says no numbers.
 #[derive(Clone, Copy)]
-pub enum Input {
-    // So many numbers.
-    Numbers(u64),
+pub enum InputError {
     // The line of this number, counted from 1, is the first that says none.
     WrongLine(u64),
     // It cannot be read.
@@ -36,13 +33,11 @@ pub enum Input {
 }
 
 // A digit more behind a value.
+#[tactic(auto, unfolding(crate::specs::Numbers::digit_after))]
 fn digit_after(value: u64, c: u8) -> Line
     ensures { result ≡ digit_after value c }
 {
-    if c < b'0' {
-        return Line::Wrong;
-    }
-    if b'9' < c {
+    if c < b'0' || b'9' < c {
         return Line::Wrong;
     }
     let digit = (c - b'0') as u64;
@@ -77,23 +72,17 @@ fn put(out: &mut [u64], at: u64, value: u64)
 fn end_line(t: Numbers, out: &mut [u64]) -> Numbers
     ensures { Steps t out.old 10 result out.new }
 {
-    let line = t.line;
-    let count = t.count;
-    match line {
+    match t.line {
         Line::Says(value) => {
-            put(out, count, value);
+            put(out, t.count, value);
             Numbers {
-                count: one_more(count),
+                count: t.count.saturating_add(1),
                 line: Line::Blank,
             }
         }
-        Line::Blank => Numbers {
-            count,
+        _ => Numbers {
             line: Line::Wrong,
-        },
-        Line::Wrong => Numbers {
-            count,
-            line: Line::Wrong,
+            ..t
         },
     }
 }
@@ -105,10 +94,9 @@ fn after_char(t: Numbers, c: u8, out: &mut [u64]) -> Numbers
     if c == 10 {
         return end_line(t, out);
     }
-    let line = t.line;
     Numbers {
-        count: t.count,
-        line: grow(line, c),
+        line: grow(t.line, c),
+        ..t
     }
 }
 
@@ -117,91 +105,58 @@ fn after_chars(t: Numbers, s: &[u8], out: &mut [u64]) -> Numbers
     ensures { StepsOn t out.old s.now result out.new }
 {
     let mut r = t;
-    let mut i = 0;
-    while i < s.len() {
-        r = after_char(r, s[i], out);
-        i += 1;
+    for &c in s {
+        r = after_char(r, c, out);
     }
     r
 }
 
-// The numbers after a read, whether there is reason to read on, and whether the read failed.
-#[derive(Clone, Copy)]
-struct Turn {
-    numbers: Numbers,
-    more: bool,
-    failed: bool,
-}
-
-// One read of the input.
-fn read_some<R: Read>(input: &mut R, t: Numbers, out: &mut [u64]) -> Turn
-    ensures { StepsSome t out.old result.numbers out.new }
+// One read of the input: the numbers behind it, or none where the input is at its end.
+fn read_some<R: Read>(input: &mut R, t: Numbers, out: &mut [u64]) -> Result<Option<Numbers>, Error>
+    ensures { StepsSome t out.old (numbers_after t result) out.new }
 {
     let mut block = io::buffer();
-    let Ok(n) = input.read(&mut block) else {
-        return Turn {
-            numbers: t,
-            more: false,
-            failed: true,
-        };
-    };
+    let n = input.read(&mut block)?;
     if n == 0 {
-        return Turn {
-            numbers: t,
-            more: false,
-            failed: false,
-        };
+        return Ok(None);
     }
-    let r = after_chars(t, &block[..n], out);
-    Turn {
-        numbers: r,
-        more: true,
-        failed: false,
-    }
+    Ok(Some(after_chars(t, &block[..n], out)))
 }
 
-// All of the input, in turns counted down as those of a text are.
-fn read_to_end<R: Read>(input: &mut R, t: Numbers, out: &mut [u64]) -> Turn
-    ensures { StepsSome t out.old result.numbers out.new }
+// All of the input, in turns counted as those of a text are.
+fn read_to_end<R: Read>(input: &mut R, t: Numbers, out: &mut [u64]) -> Result<Numbers, Error>
+    ensures { StepsAll t out.old result out.new }
 {
-    let mut r = Turn {
-        numbers: t,
-        more: true,
-        failed: false,
-    };
-    let mut turns = u64::MAX;
-    while turns > 0 && r.more {
-        r = read_some(input, r.numbers, out);
-        turns -= 1;
+    let mut r = t;
+    for _ in 0..u64::MAX {
+        let Some(next) = read_some(input, r, out)? else {
+            return Ok(r);
+        };
+        r = next;
     }
-    r
+    Ok(r)
 }
 
 // What the numbers held answer at the end of the text.
-fn input_of(t: Numbers) -> Input
+fn input_of(t: Numbers) -> Result<u64, InputError>
     ensures { result ≡ input_by t.count t.line }
 {
-    let line = t.line;
-    let count = t.count;
-    match line {
-        Line::Blank => Input::Numbers(count),
-        Line::Says(_) => Input::WrongLine(one_more(count)),
-        Line::Wrong => Input::WrongLine(one_more(count)),
+    match t.line {
+        Line::Blank => Ok(t.count),
+        _ => Err(InputError::WrongLine(t.count.saturating_add(1))),
     }
 }
 
-// The numbers of the input, stored from the front of the lent memory on; those that find no room there are only counted.
-pub fn read_numbers<R: Read>(input: &mut R, out: &mut [u64]) -> Input
+// How many numbers the input has, stored from the front of the lent memory on; those that find no room there are only counted.
+pub fn read_numbers<R: Read>(input: &mut R, out: &mut [u64]) -> Result<u64, InputError>
     ensures { Reads out.old result out.new }
 {
     let fresh = Numbers {
         count: 0,
         line: Line::Blank,
     };
-    let r = read_to_end(input, fresh, out);
-    if r.failed {
-        return Input::Unreadable;
-    }
-    let numbers = r.numbers;
+    let Ok(numbers) = read_to_end(input, fresh, out) else {
+        return Err(InputError::Unreadable);
+    };
     input_of(numbers)
 }

@@ -1,72 +1,59 @@
 // The words of a command: numbers and roles.
-ghost use Rattle.std.specs.Prelude.{◌≡◌, ◌≤◌, length};
-ghost use Rattle.console.specs.Words.{with_digit, up_to_most, decimal_of, Says};
+ghost use Rattle.std.specs.Prelude.{◌≡◌, ◌≤◌, length, IfSome};
+ghost use Rattle.console.specs.Words.{with_digit, up_to_most, or_past, decimal_of, Says};
 
 use bell103::Role;
 use std::env::{Env, FillError};
 
-// What a word for the role says.
-#[derive(Clone, Copy)]
-pub enum Named {
-    Role(Role),
-    Unknown,
-}
-
-// A number with one digit more; one past the most where that is none, or more than the most.
-fn with_digit(most: u32, value: u64, c: u8) -> u64
+// A number with one digit more; none where that is no digit, or where the number then is more than the most.
+#[tactic(auto, unfolding(crate::specs::Words::with_digit))]
+fn with_digit(most: u32, value: u32, c: u8) -> Option<u32>
     requires { value ≤ most }
-    ensures { result ≡ with_digit most value c }
+    ensures value { or_past most result ≡ with_digit most value c }
+    ensures within { IfSome result (λ n. n ≤ most) }
 {
-    let none = most as u64 + 1;
-    if c < b'0' {
-        return none;
+    if c < b'0' || b'9' < c {
+        return None;
     }
-    if b'9' < c {
-        return none;
+    let next = value as u64 * 10 + (c - b'0') as u64;
+    if (most as u64) < next {
+        None
+    } else {
+        Some(next as u32)
     }
-    let next = value * 10 + (c - b'0') as u64;
-    if (most as u64) < next { none } else { next }
 }
 
-// The number that a word says; one past the most where it says none up to the most.
-pub fn decimal_up_to(most: u32, word: &[u8]) -> u64
-    ensures { result ≡ up_to_most most word.now }
+// The number that a word says, where it says one up to the most.
+pub fn decimal_up_to(most: u32, word: &[u8]) -> Option<u32>
+    ensures value { or_past most result ≡ up_to_most most word.now }
+    ensures within { IfSome result (λ n. n ≤ most) }
 {
-    let limit = most as u64;
     let mut value = 0;
-    let mut i = 0;
-    while i < word.len() {
-        value = with_digit(most, value, word[i]);
-        if limit < value {
-            return limit + 1;
-        }
-        i += 1;
+    for &c in word {
+        value = with_digit(most, value, c)?;
     }
-    value
+    Some(value)
 }
 
-// The number that a word of a command says; 0 where it says none up to 65,535.
+// The number that a word of a command says; 0, which no rate and no station is, where it says none up to 65,535.
+#[tactic(auto, unfolding(crate::specs::Words::decimal_of))]
 fn decimal(word: &[u8]) -> u16
     ensures { result ≡ decimal_of word.now }
 {
-    let n = decimal_up_to(65535, word);
-    if 65535 < n {
-        return 0;
-    }
-    n as u16
+    decimal_up_to(65535, word).unwrap_or(0) as u16
 }
 
 // What a word says of the role.
-fn role_of(word: &[u8]) -> Named
+fn role_of(word: &[u8]) -> Option<Role>
     ensures { Says word.now result }
 {
     if check::same(word, b"originate") {
-        return Named::Role(Role::Originate);
+        return Some(Role::Originate);
     }
     if check::same(word, b"answer") {
-        return Named::Role(Role::Answer);
+        return Some(Role::Answer);
     }
-    Named::Unknown
+    None
 }
 
 // Puts the i-th word of the command at the start of the buffer, and says how many bytes it has: none where there is no such word, or where the
@@ -74,29 +61,23 @@ fn role_of(word: &[u8]) -> Named
 pub fn word_into<E: Env>(env: &E, i: usize, buf: &mut [u8]) -> usize
     ensures { result ≤ length buf.new }
 {
-    match env.arg(i, buf) {
-        Ok(n) => n,
-        Err(_) => 0,
-    }
+    env.arg(i, buf).unwrap_or(0)
 }
 
 // Whether the command has an i-th word.
 fn has_word<E: Env>(env: &E, i: usize) -> bool {
     let mut buf = [0u8; 1];
-    match env.arg(i, &mut buf) {
-        Ok(_) => true,
-        Err(FillError::TooLong) => true,
-        Err(FillError::NotPresent) => false,
-    }
+    !matches!(env.arg(i, &mut buf), Err(FillError::NotPresent))
 }
 
 // How many words the command has, the program's name among them.
 pub fn word_count<E: Env>(env: &E) -> usize {
-    let mut n = 0;
-    while n < usize::MAX && has_word(env, n) {
-        n += 1;
+    for n in 0..usize::MAX {
+        if !has_word(env, n) {
+            return n;
+        }
     }
-    n
+    usize::MAX
 }
 
 // The number that the i-th word of the command says; 0 where it says none up to 65,535.
@@ -107,7 +88,7 @@ pub fn number_word<E: Env>(env: &E, i: usize) -> u16 {
 }
 
 // What the i-th word of the command says of the role.
-pub fn role_word<E: Env>(env: &E, i: usize) -> Named {
+pub fn role_word<E: Env>(env: &E, i: usize) -> Option<Role> {
     let mut buf = [0u8; 64];
     let n = word_into(env, i, &mut buf);
     role_of(&buf[..n])

@@ -18,6 +18,8 @@ use Rattle.framing.specs.Frame.{with_bit, most_errors, ended, idle_bit, data_bit
 use Rattle.framing.proofs.FrameLaws.{push-idle, push-data, push-stop}
 use Rattle.framing.specs.Framing.{AreBytes, held}
 use Rattle.framing.proofs.FramingLaws.{heard-append, after-append, bads-append, held-most, bit-few, bit-errors, bit-errors-most}
+use Rattle.demodulation.specs.DemodRep.{DemodSound}
+use Rattle.demodulation.specs.declared.demod.Demodulator as code
 use Rattle.demodulation.specs.Demod.{Demodulator, Step, event_of, dropped_at, kept_by, fed, finished, decoded, step_of, fresh_demodulator, fall_of, change_of, word_of, happens_at, happens, before, hearing, reported, Tuned}
 use Rattle.demodulation.specs.Carrier.{updated, dominance_step}
 use Rattle.demodulation.specs.Correlation.{places, multiplied, advanced, correlated}
@@ -37,8 +39,9 @@ use Rattle.demodulation.specs.declared.carrier.CarrierDetector.{CarrierDetector}
 use Rattle.demodulation.specs.declared.demod.Latch.{Latch}
 use Rattle.demodulation.specs.declared.correlator.Decision.{Decision}
 use Rattle.demodulation.specs.declared.correlator.Correlator.{Correlator}
-use Rattle.demodulation.specs.declared.demod.Event.{Event}
-use Rattle.demodulation.specs.declared.demod.Event.TheVariants.{Nothing, CarrierUp, CarrierDown}
+use Rattle.demodulation.specs.declared.demod.Carrier.{Carrier}
+use Rattle.demodulation.specs.declared.demod.Carrier.TheVariants.{Up, Down}
+use Rattle.std.specs.Prelude.{Option, Some, None}
 use Rattle.demodulation.specs.Demod.{bits_at, bits_in, Sliced, last_of, joined}
 
 -- ---- the half byte
@@ -58,20 +61,20 @@ kept_either d soft P w g l ForBoard false false boundary = rw (keeps-half-byte d
 -- ---- one step
 module _ (d : Demodulator) (s : Float) where
   -- "nothing more until 27 samples are in"
-  pub step_waits : (fed d s).corr.filled ≡ false → step_of d s ≡ record { state = fed d s; heard = Waiting; event = Nothing }
+  pub step_waits : (fed d s).corr.filled ≡ false → step_of d s ≡ record { state = fed d s; heard = Waiting; event = None }
   unfolding step_of
-  step_waits h = ap (λ (f : Bool). if f then decoded (fed d s) else record { state = fed d s; heard = Waiting; event = Nothing }) h
+  step_waits h = ap (λ (f : Bool). if f then decoded (fed d s) else record { state = fed d s; heard = Waiting; event = None }) h
 
   pub step-decodes : (fed d s).corr.filled ≡ true → step_of d s ≡ decoded (fed d s)
   unfolding step_of
-  step-decodes h = ap (λ (f : Bool). if f then decoded (fed d s) else record { state = fed d s; heard = Waiting; event = Nothing }) h
+  step-decodes h = ap (λ (f : Bool). if f then decoded (fed d s) else record { state = fed d s; heard = Waiting; event = None }) h
 
   -- what holds of either holds of the step
-  by_cases : (P : Step → Type 0) → P (record { state = fed d s; heard = Waiting; event = Nothing }) → P (decoded (fed d s)) → P (step_of d s)
+  by_cases : (P : Step → Type 0) → P (record { state = fed d s; heard = Waiting; event = None }) → P (decoded (fed d s)) → P (step_of d s)
   unfolding step_of
   by_cases P w g = go (fed d s).corr.filled
     where
-      go : (f : Bool) → P (if f then decoded (fed d s) else record { state = fed d s; heard = Waiting; event = Nothing })
+      go : (f : Bool) → P (if f then decoded (fed d s) else record { state = fed d s; heard = Waiting; event = None })
       go true = g
       go false = w
 
@@ -99,7 +102,7 @@ module _ (d : Demodulator) (s : Float) where
       (kept_either d.deframer _ P w g l d.kind d.carrier.detected _ _)
 
 -- ---- what happens at a step, by its parts
-module _ (was up : Bool) (event : Event) (heard : Heard) where
+module _ (was up : Bool) (event : Option Carrier) (heard : Heard) where
   fall-bytes : (was up : Bool) → bytes_in (fall_of was up) ≡ []
   unfolding bytes_in
   fall-bytes true true = refl
@@ -107,11 +110,11 @@ module _ (was up : Bool) (event : Event) (heard : Heard) where
   fall-bytes false true = refl
   fall-bytes false false = refl
 
-  change-bytes : (event : Event) → bytes_in (change_of event) ≡ []
+  change-bytes : (event : Option Carrier) → bytes_in (change_of event) ≡ []
   unfolding bytes_in
-  change-bytes Nothing = refl
-  change-bytes CarrierUp = refl
-  change-bytes CarrierDown = refl
+  change-bytes None = refl
+  change-bytes (Some Up) = refl
+  change-bytes (Some Down) = refl
 
   word_bytes : (heard : Heard) → bytes_in (word_of heard) ≡ bytes_of heard
   unfolding bytes_in
@@ -131,11 +134,11 @@ module _ (was up : Bool) (event : Event) (heard : Heard) where
   fall-changes false true = refl
   fall-changes false false = refl
 
-  change-changes : (event : Event) → changes_in (change_of event) ≡ events_of event
+  change-changes : (event : Option Carrier) → changes_in (change_of event) ≡ events_of event
   unfolding changes_in
-  change-changes Nothing = refl
-  change-changes CarrierUp = refl
-  change-changes CarrierDown = refl
+  change-changes None = refl
+  change-changes (Some Up) = refl
+  change-changes (Some Down) = refl
 
   word-changes : (heard : Heard) → changes_in (word_of heard) ≡ []
   unfolding changes_in
@@ -155,11 +158,11 @@ module _ (was up : Bool) (event : Event) (heard : Heard) where
   fall-bads false true = refl
   fall-bads false false = refl
 
-  change-bads : (event : Event) → bad_stops_in (change_of event) ≡ 0
+  change-bads : (event : Option Carrier) → bad_stops_in (change_of event) ≡ 0
   unfolding bad_stops_in
-  change-bads Nothing = refl
-  change-bads CarrierUp = refl
-  change-bads CarrierDown = refl
+  change-bads None = refl
+  change-bads (Some Up) = refl
+  change-bads (Some Down) = refl
 
   word-bads : (heard : Heard) → bad_stops_in (word_of heard) ≡ bad_stops_of heard
   unfolding bad_stops_in
@@ -174,25 +177,25 @@ module _ (was up : Bool) (event : Event) (heard : Heard) where
       (omega (arith, word-bads heard))
 
 -- at most two: where the detector goes down, nothing is sliced
-one-change : (event : Event) → length (change_of event) ≤ 1
-one-change Nothing = omega arith
-one-change CarrierUp = omega arith
-one-change CarrierDown = omega arith
+one-change : (event : Option Carrier) → length (change_of event) ≤ 1
+one-change None = omega arith
+one-change (Some Up) = omega arith
+one-change (Some Down) = omega arith
 
 one_word : (heard : Heard) → length (word_of heard) ≤ 1
 one_word (Byte b) = omega arith
 one_word Waiting = omega arith
 one_word BadStop = omega arith
 
-word-few : (heard : Heard) (event : Event) → length (change_of event ++ word_of heard) ≤ 2
+word-few : (heard : Heard) (event : Option Carrier) → length (change_of event ++ word_of heard) ≤ 2
 word-few heard event = rw (length-append (change_of event) (word_of heard)) (omega (arith, one-change event, one_word heard))
 
-two_at : (d : Deframer) (was up boundary : Bool) (soft : Float) (event : Event) → length (happens_at was up event (sliced d boundary up soft).heard) ≤ 2
+two_at : (d : Deframer) (was up boundary : Bool) (soft : Float) (event : Option Carrier) → length (happens_at was up event (sliced d boundary up soft).heard) ≤ 2
 two_at d true false boundary soft event = rw (keeps-half-byte d soft boundary, length-append (change_of event) []) (omega (arith, one-change event))
 two_at d true true boundary soft event = word-few (sliced d boundary true soft).heard event
 two_at d false up boundary soft event = word-few (sliced d boundary up soft).heard event
 
-none-at : (up : Bool) → length (happens_at up up Nothing Waiting) ≤ 2
+none-at : (up : Bool) → length (happens_at up up None Waiting) ≤ 2
 none-at true = omega arith
 none-at false = omega arith
 
@@ -314,9 +317,9 @@ step-bits d s bare = go (fed d s).corr.filled
 
     go : (f : Bool) → Sliced d.deframer
         (if f then sliced_bits (ticked d.kind d.timing o.soft).boundary (updated d.carrier o.energy).detected o.soft else [])
-        (if f then decoded (fed d s) else record { state = fed d s; heard = Waiting; event = Nothing }).state.deframer
-        (bytes_of (if f then decoded (fed d s) else record { state = fed d s; heard = Waiting; event = Nothing }).heard)
-        (bad_stops_of (if f then decoded (fed d s) else record { state = fed d s; heard = Waiting; event = Nothing }).heard) 1
+        (if f then decoded (fed d s) else record { state = fed d s; heard = Waiting; event = None }).state.deframer
+        (bytes_of (if f then decoded (fed d s) else record { state = fed d s; heard = Waiting; event = None }).heard)
+        (bad_stops_of (if f then decoded (fed d s) else record { state = fed d s; heard = Waiting; event = None }).heard) 1
     go true = kept d.kind d.carrier.detected _ _ bare
     go false = unfold heard bad_stop_count after in record { few = omega arith; left = refl; yields = refl; bad_stops = refl }
 
@@ -393,13 +396,17 @@ bytes-append [] ys p q = q
 bytes-append (x ∷ xs) ys p q = (p.0, bytes-append xs ys p.1 q)
 
 -- ---- what a step leaves true
-next_place : (c : Correlator) → (advanced c).pos < places
+pub next_place : (c : Correlator) → (advanced c).pos < places
 unfolding advanced
 next_place c = go (ltb (c.pos + 1) places) refl
   where
     go : (t : Bool) → ltb (c.pos + 1) places ≡ t → (if t then c.pos + 1 else 0) < places
     go true e = ltb-true (c.pos + 1) places e
     go false e = omega arith
+
+-- a demodulator of the code's is sound: its core says so
+pub demod-sound-of : (d : code.Demodulator) → DemodSound d
+demod-sound-of d = record { place = d.core.place; byte = d.core.byte }
 
 pub fresh-tuned : (kind : Kind) (role : Role) → Tuned (fresh_demodulator kind role)
 unfolding fresh_demodulator
@@ -438,10 +445,10 @@ reports true false = refl
 reports false true = refl
 reports false false = refl
 
-few-events : (e : Event) → length (events_of e) ≤ 1
-few-events Nothing = omega arith
-few-events CarrierUp = omega arith
-few-events CarrierDown = omega arith
+few-events : (e : Option Carrier) → length (events_of e) ≤ 1
+few-events None = omega arith
+few-events (Some Up) = omega arith
+few-events (Some Down) = omega arith
 
 step-reports : (d : Demodulator) (s : Float) → reported (step_of d s).state ≡ last_of (reported d) (events_of (step_of d s).event)
 unfolding fed finished

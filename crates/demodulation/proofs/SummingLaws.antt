@@ -1,38 +1,19 @@
 -- The correlator's sums place by place, and from sample to sample. Assumes nothing.
-use Prim.Native.Nat.{ℕ, ◌+◌, ◌<◌}
-use mathlib.Core.Path.{◌≡◌, refl, sym, ap, ap₂, subst, ◌∙◌}
-use mathlib.Core.List.{List, [], ◌∷◌, ◌++◌}
-use native.Mathlib.Numerals.{add-one}
+use Prim.Native.Nat.{ℕ}
+use mathlib.Core.Path.{◌≡◌, sym, ap, ap₂, subst, ◌∙◌}
+use mathlib.Core.List.{List}
 use native.Mathlib.Omega.{arith}
 use lib.Ieee.{Float}
-use lib.ListN.{length, get_or, take, set, length-set}
-use lib.Seq.{take-suc, take-set-le, take_all}
-use Rattle.numeric.specs.F64.{◌⊕◌, zero64}
-use Rattle.numeric.specs.Fold.{fold}
+use lib.ListN.{set, length-set}
+use lib.Seq.{take-set-le, take_all}
 use Rattle.numeric.specs.Root.{root_of}
 use Rattle.demodulation.specs.Correlation.{places, sum_of, magnitude_of, multiplied}
-use Rattle.demodulation.specs.Summing.{SumTo, Summed, no_sums, with_place}
+use Rattle.demodulation.specs.Summing.{SumTo, Summed}
 use Rattle.demodulation.specs.declared.correlator.Correlator.{Correlator}
 use Rattle.demodulation.specs.declared.correlator.Rings.{Rings}
 use Rattle.demodulation.specs.declared.correlator.Sums.{Sums}
 
 -- ---- one ring
-fold-snoc : (b : Float) (xs : List Float) (x : Float) → fold ◌⊕◌ b (xs ++ (x ∷ [])) ≡ fold ◌⊕◌ b xs ⊕ x
-fold-snoc b [] x = refl
-fold-snoc b (y ∷ xs) x = fold-snoc (b ⊕ y) xs x
-
-sum-start : (ring : List Float) → length ring ≡ places → SumTo 0 ring zero64
-sum-start ring l = record { sum = refl; long = l }
-
-sum-turn : (n : ℕ) (ring : List Float) (x d : Float) → n < places → SumTo n ring x → SumTo (n + 1) ring (x ⊕ get_or ring n d)
-sum-turn n ring x d h s =
-    record {
-      sum =
-          rw (add-one, take-suc ring n d (omega (arith, s.long)), fold-snoc zero64 (take n ring) (get_or ring n d))
-          (ap (λ (y : Float). y ⊕ get_or ring n d) s.sum);
-      long = s.long;
-    }
-
 sum-end : (ring : List Float) (x : Float) → SumTo places ring x → x ≡ sum_of ring
 sum-end ring x s = s.sum ∙ ap sum_of (take_all places ring (omega (arith, s.long)))
 
@@ -46,27 +27,6 @@ unfolding magnitude_of
 tone-end i q x y m a b e = e ∙ ap₂ root_of (sum-end i x a) (sum-end q y b)
 
 -- ---- the four
-pub summed-start : (mi mq si sq : List Float) (p : Sums) → p ≡ no_sums → length mi ≡ places → length mq ≡ places → length si ≡ places → length sq ≡ places
-    → Summed 0 (record { mark_i = mi; mark_q = mq; space_i = si; space_q = sq }) p
-summed-start mi mq si sq p e a b c d =
-    subst (Summed 0 (record { mark_i = mi; mark_q = mq; space_i = si; space_q = sq })) (sym e)
-    (record { mark_i = sum-start mi a; mark_q = sum-start mq b; space_i = sum-start si c; space_q = sum-start sq d })
-
-module _ (n : ℕ) (r : Rings) (p : Sums) (s : Summed n r p) where
-  pub summed-again : (p' : Sums) → p' ≡ no_sums → Summed 0 r p'
-  summed-again p' e = summed-start _ _ _ _ p' e s.mark_i.long s.mark_q.long s.space_i.long s.space_q.long
-
-  pub summed_turn : (d : Float) (p' : Sums) → n < places
-      → p' ≡ with_place p (get_or r.mark_i n d) (get_or r.mark_q n d) (get_or r.space_i n d) (get_or r.space_q n d) → Summed (n + 1) r p'
-  summed_turn d p' h e =
-      subst (Summed (n + 1) r) (sym e)
-      (record {
-        mark_i = sum-turn n _ _ d h s.mark_i;
-        mark_q = sum-turn n _ _ d h s.mark_q;
-        space_i = sum-turn n _ _ d h s.space_i;
-        space_q = sum-turn n _ _ d h s.space_q;
-      })
-
 pub summed-to : {n m : ℕ} (r : Rings) (p : Sums) → Summed n r p → n ≡ m → Summed m r p
 summed-to r p s e = subst (λ (k : ℕ). Summed k r p) e s
 

@@ -10,8 +10,8 @@ use lib.Ieee.{Float, nan}
 use Rattle.happenings.specs.Happening.{happenings_of}
 use Rattle.happenings.specs.Codes.{most_steps, most_codes, Codes, heard_in}
 use Rattle.happenings.specs.declared.happening.Happening.{Happening}
-use Rattle.demodulation.specs.Demod.{Demodulator, Step, happens, hearing, step_of, Tuned}
-use Rattle.demodulation.proofs.DemodLaws.{hearing-turn, hearing-end, hearing-two, after_turn, happenings-turn, step-tuned}
+use Rattle.demodulation.specs.Demod.{Demodulator, Step, happens, hearing, step_of}
+use Rattle.demodulation.proofs.DemodLaws.{hearing-turn, hearing-end, hearing-two, after_turn, happenings-turn}
 use Rattle.demodulation.specs.Listening.{Put}
 
 -- ---- one put after another
@@ -35,7 +35,6 @@ put_both n m k a b c xs ys p q =
 
 -- ---- from sample i on, the rest does what the whole does from the start
 pub record Going (xs : List Float) (d₀ : Demodulator) (codes₀ codes : List ℕ) (d : Demodulator) (n : ℕ) (i : ℕ) : Type 0 where
-  pub tuned : Tuned d
   pub after : (hearing d (drop i xs)).after ≡ (hearing d₀ xs).after
   pub heard : heard_in n codes ++ (hearing d (drop i xs)).happenings ≡ (hearing d₀ xs).happenings
   pub counted : n + length (hearing d (drop i xs)).happenings ≡ length (hearing d₀ xs).happenings
@@ -43,9 +42,9 @@ pub record Going (xs : List Float) (d₀ : Demodulator) (codes₀ codes : List �
   pub places : Codes codes
   pub few : length xs ≤ most_steps
 
-pub going_start : (xs : List Float) (d : Demodulator) (codes : List ℕ) → Tuned d → Codes codes → length xs ≤ most_steps → Going xs d codes codes d 0 0
+pub going_start : (xs : List Float) (d : Demodulator) (codes : List ℕ) → Codes codes → length xs ≤ most_steps → Going xs d codes codes d 0 0
 unfolding happenings_of
-going_start xs d codes t p f = record { tuned = t; after = refl; heard = refl; counted = omega arith; rest = refl; places = p; few = f }
+going_start xs d codes p f = record { after = refl; heard = refl; counted = omega arith; rest = refl; places = p; few = f }
 
 -- what was heard when the loop is through
 pub record Gone (xs : List Float) (d₀ : Demodulator) (codes₀ codes : List ℕ) (d : Demodulator) (n : ℕ) : Type 0 where
@@ -55,7 +54,6 @@ pub record Gone (xs : List Float) (d₀ : Demodulator) (codes₀ codes : List �
   pub few : n ≤ most_codes
   pub rest : drop n codes ≡ drop n codes₀
   pub places : Codes codes
-  pub tuned : Tuned d
 
 module _ (xs : List Float) (d₀ : Demodulator) (codes₀ codes : List ℕ) (d : Demodulator) (n : ℕ) (i : ℕ) (g : Going xs d₀ codes₀ codes d n i) where
   module _ (x : Step) (h : i < length xs) (is : x ≡ step_of d (get_or xs i nan)) where
@@ -69,7 +67,6 @@ module _ (xs : List Float) (d₀ : Demodulator) (codes₀ codes : List ℕ) (d :
     pub going_on : (codes' : List ℕ) (n' : ℕ) → Put n codes (happens d x) n' codes' → Going xs d₀ codes₀ codes' x.state n' (i + 1)
     going_on codes' n' k =
         record {
-          tuned = rw is (step-tuned d (get_or xs i nan) g.tuned);
           after = rw is (after_turn d xs i nan h) ∙ g.after;
           heard = rw (k.waits, is) (happenings-turn d xs i nan h (heard_in n codes)) ∙ g.heard;
           counted = omega (arith, left, g.counted, k.count);
@@ -89,5 +86,4 @@ module _ (xs : List Float) (d₀ : Demodulator) (codes₀ codes : List ℕ) (d :
         few = omega (arith, c, g.few, hearing-two d₀ xs);
         rest = g.rest;
         places = g.places;
-        tuned = g.tuned;
       }

@@ -1,5 +1,5 @@
 -- rx.rs at 8,000 Hz, operation by operation: what one sample makes of the state, and what is heard in a list of samples. Assumes nothing.
-use Rattle.std.specs.Prelude.{ℕ, ◌<◌, ◌≤◌, Bool, true, false, not, ◌&&◌, ◌||◌, List, [], ◌∷◌, ◌++◌, Float, ◌≡◌, length, if◌then◌else◌}
+use Rattle.std.specs.Prelude.{ℕ, ◌<◌, ◌≤◌, Bool, true, false, not, ◌&&◌, ◌||◌, List, [], ◌∷◌, ◌++◌, Float, ◌≡◌, length, if◌then◌else◌, Option, Some, None}
 use Rattle.numeric.specs.F64.{whole}
 use Rattle.refusal.specs.Refusals.{dsp_rate}
 use Rattle.bell103.specs.Roles.{other_role, tones_of}
@@ -22,8 +22,8 @@ use Rattle.demodulation.specs.declared.timing.Timing.{Timing}
 use Rattle.demodulation.specs.declared.carrier.CarrierDetector.{CarrierDetector}
 use Rattle.demodulation.specs.declared.correlator.Rings.{Rings}
 use Rattle.demodulation.specs.declared.demod.Latch.{Latch}
-use Rattle.demodulation.specs.declared.demod.Event.{Event}
-use Rattle.demodulation.specs.declared.demod.Event.TheVariants.{Nothing, CarrierUp, CarrierDown}
+use Rattle.demodulation.specs.declared.demod.Carrier.{Carrier}
+use Rattle.demodulation.specs.declared.demod.Carrier.TheVariants.{Up, Down}
 use Rattle.numeric.specs.Fold.{fold}
 
 -- ---- the latch, and its event
@@ -37,11 +37,11 @@ unfoldable pub latched : Latch → Bool → Bool → Latch
 latched l gate up = record { qualified = (l.qualified_ever || gate) && up; qualified_ever = l.qualified_ever || gate }
 
 -- the event of a step: a change of the report
-abbrev pub event_of : Bool → Bool → Event
-event_of false true = CarrierUp
-event_of true false = CarrierDown
-event_of true true = Nothing
-event_of false false = Nothing
+abbrev pub event_of : Bool → Bool → Option Carrier
+event_of false true = Some Up
+event_of true false = Some Down
+event_of true true = None
+event_of false false = None
 
 -- ---- one sample
 -- the receiver at 8,000 Hz: whom it listens for; "the correlator's rings" and phases; dominance and its gate; detector, latched report, timing,
@@ -61,7 +61,7 @@ pub record Demodulator : Type 0 where
 pub record Step : Type 0 where
   pub state : Demodulator
   pub heard : Heard
-  pub event : Event
+  pub event : Option Carrier
 
 -- "products, phases, ring place; dominance": a block that this sample ends has its say in this step
 unfoldable pub fed : Demodulator → Float → Demodulator
@@ -120,7 +120,7 @@ decoded d =
 
 -- "nothing more until 27 samples are in"
 unfoldable pub step_of : Demodulator → Float → Step
-step_of d s = if (fed d s).corr.filled then decoded (fed d s) else record { state = fed d s; heard = Waiting; event = Nothing }
+step_of d s = if (fed d s).corr.filled then decoded (fed d s) else record { state = fed d s; heard = Waiting; event = None }
 
 -- ---- a fresh one
 abbrev pub fresh_on : Kind → TonePair → TonePair → Demodulator
@@ -149,10 +149,10 @@ fall_of true true = []
 fall_of false up = []
 
 -- a change of the report
-abbrev pub change_of : Event → List Happening
-change_of Nothing = []
-change_of CarrierUp = happening.Up ∷ []
-change_of CarrierDown = happening.Down ∷ []
+abbrev pub change_of : Option Carrier → List Happening
+change_of None = []
+change_of (Some Up) = happening.Up ∷ []
+change_of (Some Down) = happening.Down ∷ []
 
 -- what a bit completed
 abbrev pub word_of : Heard → List Happening
@@ -161,7 +161,7 @@ word_of Waiting = []
 word_of BadStop = happening.BadStop ∷ []
 
 -- "detector; latch; event; timing; slice": in this order
-abbrev pub happens_at : Bool → Bool → Event → Heard → List Happening
+abbrev pub happens_at : Bool → Bool → Option Carrier → Heard → List Happening
 happens_at was up event heard = fall_of was up ++ (change_of event ++ word_of heard)
 
 -- of a step from the state d
@@ -176,10 +176,10 @@ pub record Hearing : Type 0 where
   pub happenings : List Happening
 
 -- an event as a list: one, true for up, or none
-abbrev pub events_of : Event → List Bool
-events_of Nothing = []
-events_of CarrierUp = true ∷ []
-events_of CarrierDown = false ∷ []
+abbrev pub events_of : Option Carrier → List Bool
+events_of None = []
+events_of (Some Up) = true ∷ []
+events_of (Some Down) = false ∷ []
 
 -- what a step from d gives, before what is heard from its state on
 abbrev pub before : Demodulator → Step → Hearing → Hearing

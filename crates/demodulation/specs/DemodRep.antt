@@ -42,6 +42,6 @@ Feeds c s r = (rings : Rings) → demodulator (multiplied rings c.corr s) r ≡ 
 abbrev pub Finishes : Core → CarrierDetector → Latch → Float → CoreStep → Type 0
 Finishes c carrier latch soft r = (rings : Rings) → step_with rings r ≡ plain.finished (demodulator rings c) carrier latch soft
 
--- a state that `new` or a later call gave
+-- what each value of the type keeps (proofs/DemodLaws.antt, demod-sound-of)
 abbrev pub DemodSound : Demodulator → Type 0
 DemodSound d = plain.Tuned (demodulator_of d)

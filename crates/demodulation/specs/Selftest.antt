@@ -1,19 +1,17 @@
 -- What the examples of the inner parts answer: the detector on one energy, and a block of equal samples. Assumes nothing.
-use Rattle.std.specs.Prelude.{ℕ, zero, suc, Float, if◌then◌else◌}
+use Rattle.std.specs.Prelude.{ℕ, zero, suc, Float, if◌then◌else◌, Option, Some, None}
 use Rattle.numeric.specs.F64.{f64}
 use Rattle.demodulation.specs.Carrier.{updated, fresh_detector, fresh_dominance, with_sample, dominance_step, BlockAnswer, ended_answer}
 use Rattle.demodulation.specs.declared.carrier.CarrierDetector.{CarrierDetector}
 use Rattle.demodulation.specs.declared.carrier.ToneDominance.{ToneDominance}
-use Rattle.demodulation.specs.declared.selftest.Rise.{Rise}
-use Rattle.demodulation.specs.declared.selftest.Rise.TheVariants.{At, Never}
 
 -- the first of at most n more updates with this energy at which the detector is up, the next of them being the k-th
-unfoldable pub first_up : ℕ → ℕ → CarrierDetector → Float → Rise
-first_up zero k d energy = Never
-first_up (suc n) k d energy = if (updated d energy).detected then At k else first_up n (suc k) (updated d energy) energy
+unfoldable pub first_up : ℕ → ℕ → CarrierDetector → Float → Option ℕ
+first_up zero k d energy = None
+first_up (suc n) k d energy = if (updated d energy).detected then Some k else first_up n (suc k) (updated d energy) energy
 
 -- "Detector from fresh"
-abbrev pub rise_of : Float → ℕ → Rise
+abbrev pub rise_of : Float → ℕ → Option ℕ
 rise_of energy updates = first_up updates 1 fresh_detector energy
 
 -- after n samples, all x

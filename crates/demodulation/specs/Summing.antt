@@ -1,7 +1,6 @@
 -- The correlator's sums, carried from sample to sample: a sample changes one place of each ring, so the sums over the places before it stand.
 -- Assumes nothing.
 use Rattle.std.specs.Prelude.{ℕ, ◌+◌, ◌≡◌, List, ltb, Float, length, take, if◌then◌else◌}
-use Rattle.numeric.specs.F64.{◌⊕◌, zero64}
 use Rattle.demodulation.specs.Correlation.{places, sum_of}
 use Rattle.demodulation.specs.declared.correlator.Rings.{Rings}
 use Rattle.demodulation.specs.declared.correlator.Sums.{Sums}
@@ -17,15 +16,6 @@ pub record Summed (n : ℕ) (r : Rings) (p : Sums) : Type 0 where
   pub mark_q : SumTo n r.mark_q p.mark_q
   pub space_i : SumTo n r.space_i p.space_i
   pub space_q : SumTo n r.space_q p.space_q
-
--- "Sums start at 0.0"
-abbrev pub no_sums : Sums
-no_sums = record { mark_i = zero64; mark_q = zero64; space_i = zero64; space_q = zero64 }
-
--- sums over one place more
-abbrev pub with_place : Sums → Float → Float → Float → Float → Sums
-with_place p mi mq si sq =
-    record { mark_i = p.mark_i ⊕ mi; mark_q = p.mark_q ⊕ mq; space_i = p.space_i ⊕ si; space_q = p.space_q ⊕ sq }
 
 -- the ring place behind one; 0 behind the last
 abbrev pub next_place : ℕ → ℕ

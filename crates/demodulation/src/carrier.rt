@@ -29,12 +29,12 @@ pub struct CarrierDetector {
     pub holdoff: u32,
 }
 
+#[tactic(auto, unfolding(crate::specs::Carrier::floor_of))]
 fn next_floor(floor: f64, energy: f64) -> f64
     ensures { result ≡ floor_of floor energy }
 {
     let moved = floor + FLOOR_ADAPT * (energy - floor);
-    let least = INITIAL_FLOOR * FLOOR_MIN_FRACTION;
-    if moved < least { least } else { moved }
+    maximum(moved, INITIAL_FLOOR * FLOOR_MIN_FRACTION)
 }
 
 fn ratio_of(level: f64, floor: f64) -> f64
@@ -44,51 +44,50 @@ fn ratio_of(level: f64, floor: f64) -> f64
 }
 
 // An update that begins undetected.
+#[tactic(auto, unfolding(crate::specs::Carrier::while_down))]
 fn rise(level: f64, floor: f64, holdoff: u32) -> CarrierDetector
     ensures { result ≡ while_down level floor holdoff }
 {
-    if ratio_of(level, floor) > RISE_RATIO {
-        return CarrierDetector {
-            level,
-            floor,
-            detected: true,
-            holdoff: 0,
-        };
-    }
-    CarrierDetector {
+    let down = CarrierDetector {
         level,
         floor,
         detected: false,
         holdoff,
+    };
+    if ratio_of(level, floor) > RISE_RATIO {
+        return CarrierDetector {
+            detected: true,
+            holdoff: 0,
+            ..down
+        };
     }
+    down
 }
 
 // An update that begins detected. The test comes before the sum, so that no count overflows.
+#[tactic(auto, unfolding(crate::specs::Carrier::while_up))]
 fn hold(level: f64, floor: f64, holdoff: u32) -> CarrierDetector
     ensures { result ≡ while_up level floor holdoff }
 {
-    if ratio_of(level, floor) < FALL_RATIO {
-        if holdoff < 3999 {
-            return CarrierDetector {
-                level,
-                floor,
-                detected: true,
-                holdoff: holdoff + 1,
-            };
-        }
-        return CarrierDetector {
-            level,
-            floor,
-            detected: false,
-            holdoff: 0,
-        };
-    }
-    CarrierDetector {
+    let clear = CarrierDetector {
         level,
         floor,
         detected: true,
         holdoff: 0,
+    };
+    if ratio_of(level, floor) < FALL_RATIO {
+        if holdoff < 3999 {
+            return CarrierDetector {
+                holdoff: holdoff + 1,
+                ..clear
+            };
+        }
+        return CarrierDetector {
+            detected: false,
+            ..clear
+        };
     }
+    clear
 }
 
 impl CarrierDetector {
@@ -103,6 +102,7 @@ impl CarrierDetector {
         }
     }
 
+    #[tactic(auto, unfolding(crate::specs::Carrier::updated))]
     pub(crate) fn update(self, energy: f64) -> CarrierDetector
         ensures { result ≡ updated self energy }
     {
@@ -144,66 +144,48 @@ pub struct Judged {
     pub verdict: Verdict,
 }
 
-fn feed5(gs: [Goertzel; 5], x: f64) -> [Goertzel; 5]
-    ensures { result ≡ map (goertzel_feed x) gs }
+// Each filter after a sample. An index, here and below: `map` of an array asks for a bound on N.
+fn fed<const N: usize>(mut gs: [Goertzel; N], x: f64) -> [Goertzel; N]
+    ensures { result ≡ map (goertzel_feed x) gs.entry }
 {
-    let g0 = gs[0];
-    let g1 = gs[1];
-    let g2 = gs[2];
-    let g3 = gs[3];
-    let g4 = gs[4];
-    [g0.feed(x), g1.feed(x), g2.feed(x), g3.feed(x), g4.feed(x)]
+    for i in 0..N {
+        gs[i] = gs[i].feed(x);
+    }
+    gs
 }
 
-fn feed2(gs: [Goertzel; 2], x: f64) -> [Goertzel; 2]
-    ensures { result ≡ map (goertzel_feed x) gs }
+// Each filter as before its block.
+fn cleared<const N: usize>(mut gs: [Goertzel; N]) -> [Goertzel; N]
+    ensures { result ≡ map goertzel_reset gs.entry }
 {
-    let g0 = gs[0];
-    let g1 = gs[1];
-    [g0.feed(x), g1.feed(x)]
-}
-
-fn reset5(gs: [Goertzel; 5]) -> [Goertzel; 5]
-    ensures { result ≡ map goertzel_reset gs }
-{
-    let g0 = gs[0];
-    let g1 = gs[1];
-    let g2 = gs[2];
-    let g3 = gs[3];
-    let g4 = gs[4];
-    [g0.reset(), g1.reset(), g2.reset(), g3.reset(), g4.reset()]
-}
-
-fn reset2(gs: [Goertzel; 2]) -> [Goertzel; 2]
-    ensures { result ≡ map goertzel_reset gs }
-{
-    let g0 = gs[0];
-    let g1 = gs[1];
-    [g0.reset(), g1.reset()]
+    for i in 0..N {
+        gs[i] = gs[i].reset();
+    }
+    gs
 }
 
 // The strongest probe.
+#[tactic(auto, unfolding(crate::specs::Carrier::narrow_of))]
 fn best(gs: [Goertzel; 5]) -> f64
     ensures { result ≡ narrow_of gs }
 {
     let mut b = 0.0;
-    for i in 0..5usize {
-        let g = gs[i];
+    for g in gs {
         b = maximum(b, g.power());
     }
     b
 }
 
 // The energy of this end's own tones.
+#[tactic(auto, unfolding(crate::specs::Carrier::own_energy))]
 fn own_energy(gs: [Goertzel; 2]) -> f64
     ensures { result ≡ own_energy gs }
 {
-    let g0 = gs[0];
-    let g1 = gs[1];
-    let own_power = 0.0 + g0.power() + g1.power();
+    let own_power = 0.0 + gs[0].power() + gs[1].power();
     own_power * 2.0 / 256.0
 }
 
+#[tactic(auto, unfolding(crate::specs::Carrier::others_of))]
 fn others_of(gs: [Goertzel; 2], wideband: f64) -> f64
     ensures { result ≡ others_of gs wideband }
 {
@@ -211,6 +193,7 @@ fn others_of(gs: [Goertzel; 2], wideband: f64) -> f64
     maximum(wideband - own, own * OWN_LEAK_GUARD)
 }
 
+#[tactic(auto, unfolding(crate::specs::Carrier::judged))]
 fn judge(narrow: f64, others: f64) -> Verdict
     ensures { yes_of result ≡ judged narrow others }
 {
@@ -222,6 +205,7 @@ fn judge(narrow: f64, others: f64) -> Verdict
 }
 
 impl ToneDominance {
+    #[tactic(auto, unfolding(crate::specs::Carrier::fresh_dominance))]
     pub(crate) fn new(
         mark_hz: f64,
         own_mark_hz: f64,
@@ -248,50 +232,43 @@ impl ToneDominance {
     }
 
     // Discards the part-judged block.
+    #[tactic(auto, unfolding(crate::specs::Carrier::dominance_reset))]
     pub(crate) fn reset(self) -> ToneDominance
         ensures { result ≡ dominance_reset self }
     {
-        let m = self.mark;
-        let o = self.own;
-        let mark = reset5(m);
-        let own = reset2(o);
         ToneDominance {
-            mark,
-            own,
+            mark: cleared(self.mark),
+            own: cleared(self.own),
             wideband: 0.0,
             count: 0,
         }
     }
 
+    #[tactic(auto, unfolding(crate::specs::Carrier::dominance_reset, crate::specs::Carrier::dominance_step))]
     pub(crate) fn feed(self, x: f64) -> Judged
         ensures { answered_by result ≡ dominance_step self x }
     {
-        let m = self.mark;
-        let o = self.own;
-        let mark = feed5(m, x);
-        let own = feed2(o, x);
-        let wideband = self.wideband + x * x;
+        let block = ToneDominance {
+            mark: fed(self.mark, x),
+            own: fed(self.own, x),
+            wideband: self.wideband + x * x,
+            ..self
+        };
         let count = self.count;
         if count < 255 {
             let state = ToneDominance {
-                mark,
-                own,
-                wideband,
                 count: count + 1,
+                ..block
             };
             return Judged {
                 state,
                 verdict: Verdict::Going,
             };
         }
-        let verdict = judge(best(mark), others_of(own, wideband));
-        let full = ToneDominance {
-            mark,
-            own,
-            wideband,
-            count,
-        };
-        let state = full.reset();
-        Judged { state, verdict }
+        let verdict = judge(best(block.mark), others_of(block.own, block.wideband));
+        Judged {
+            state: block.reset(),
+            verdict,
+        }
     }
 }

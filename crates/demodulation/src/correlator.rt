@@ -1,9 +1,10 @@
 // The correlator: products with the two tones over the last 27 samples, their sums, and the decision.
-ghost use Rattle.std.specs.Prelude.{◌≡◌, ◌<◌, ◌≤◌, set};
-ghost use Rattle.numeric.specs.F64.{◌⊗◌};
-ghost use Rattle.demodulation.specs.Correlation.{decision_of, advanced, fresh_correlator, rings_of};
-ghost use Rattle.demodulation.specs.Summing.{Summed, no_sums, with_place, next_place};
+ghost use Rattle.std.specs.Prelude.{◌≡◌, ◌<◌, ◌≤◌, ◌+◌};
+ghost use Rattle.demodulation.specs.Correlation.{decision_of, advanced, fresh_correlator, multiplied};
+ghost use Rattle.demodulation.specs.Summing.{Summed, next_place};
+ghost use Rattle.demodulation.specs.Waves.{Waved};
 
+use crate::waves::Quadrature;
 use numeric::phase::turn;
 use numeric::sine::TAU;
 use refusal::DSP_RATE;
@@ -28,17 +29,20 @@ pub struct Correlator {
     pub inc_s: f64,
 }
 
-// The products of one sample with one tone, of which these are cosine and sine.
-pub fn multiply(i: &mut [f64; 27], q: &mut [f64; 27], pos: usize, cosine: f64, sine: f64, s: f64)
-    requires { pos < 27 }
-    ensures { (i.new ≡ set i.old pos (s ⊗ cosine)) × (q.new ≡ set q.old pos (s ⊗ sine)) }
+// The products of one sample with the two tones, of which w are cosine and sine, at the place.
+pub fn multiply(rings: &mut Rings, c: Correlator, w: Quadrature, s: f64)
+    requires { (c.pos < 27) × Waved c w }
+    ensures { rings.new ≡ multiplied rings.old c s }
 {
-    i[pos] = s * cosine;
-    q[pos] = s * sine;
+    rings.mark_i[c.pos] = s * w.mark_i;
+    rings.mark_q[c.pos] = s * w.mark_q;
+    rings.space_i[c.pos] = s * w.space_i;
+    rings.space_q[c.pos] = s * w.space_q;
 }
 
 // The rings' sums over their first places, in place order; over all places they are the matched filter.
 // A sample changes one place of each ring, so the sums over the places before it are carried from sample to sample.
+// A type of its own beside `Quadrature`: a sum of products must not pass for a wave.
 #[derive(Clone, Copy)]
 pub struct Sums {
     pub mark_i: f64,
@@ -47,81 +51,57 @@ pub struct Sums {
     pub space_q: f64,
 }
 
-// Sums over one place more.
-fn with_place(p: Sums, mark_i: f64, mark_q: f64, space_i: f64, space_q: f64) -> Sums
-    ensures { result ≡ with_place p mark_i mark_q space_i space_q }
-{
-    Sums {
-        mark_i: p.mark_i + mark_i,
-        mark_q: p.mark_q + mark_q,
-        space_i: p.space_i + space_i,
-        space_q: p.space_q + space_q,
-    }
-}
+const NO_SUMS: Sums = Sums {
+    mark_i: 0.0,
+    mark_q: 0.0,
+    space_i: 0.0,
+    space_q: 0.0,
+};
 
-fn no_sums() -> Sums
-    ensures { result ≡ no_sums }
+// From the sums over the first k places to those over one more.
+fn with_place(p: Sums, rings: &Rings, k: usize) -> Sums
+    requires { (k < 27) × Summed k rings.now p }
+    ensures { Summed (k + 1) rings.now result }
 {
     Sums {
-        mark_i: 0.0,
-        mark_q: 0.0,
-        space_i: 0.0,
-        space_q: 0.0,
+        mark_i: p.mark_i + rings.mark_i[k],
+        mark_q: p.mark_q + rings.mark_q[k],
+        space_i: p.space_i + rings.space_i[k],
+        space_q: p.space_q + rings.space_q[k],
     }
 }
 
 // From the sums over the first `from` places to those over the first `to`.
-pub fn sums_on(
-    mark_i: &[f64; 27],
-    mark_q: &[f64; 27],
-    space_i: &[f64; 27],
-    space_q: &[f64; 27],
-    from: usize,
-    to: usize,
-    sums: Sums,
-) -> Sums
-    requires { (from ≤ to) × (to ≤ 27) × Summed from (rings_of mark_i.now mark_q.now space_i.now space_q.now) sums }
-    ensures { Summed to (rings_of mark_i.now mark_q.now space_i.now space_q.now) result }
+pub fn sums_on(rings: &Rings, from: usize, to: usize, sums: Sums) -> Sums
+    requires { (from ≤ to) × (to ≤ 27) × Summed from rings.now sums }
+    ensures { Summed to rings.now result }
 {
     let mut p = sums;
-    let mut k = from;
-    while k < to {
-        p = with_place(p, mark_i[k], mark_q[k], space_i[k], space_q[k]);
-        k += 1;
+    // An index: four rings are walked side by side.
+    for k in from..to {
+        p = with_place(p, rings, k);
     }
     p
 }
 
 // The sums over the places before pos, from nothing.
-pub(crate) fn sums_before(
-    mark_i: [f64; 27],
-    mark_q: [f64; 27],
-    space_i: [f64; 27],
-    space_q: [f64; 27],
-    pos: usize,
-) -> Sums
+pub(crate) fn sums_before(rings: &Rings, pos: usize) -> Sums
     requires { pos < 27 }
-    ensures { Summed pos (rings_of mark_i mark_q space_i space_q) result }
+    ensures { Summed pos rings.now result }
 {
-    sums_on(&mark_i, &mark_q, &space_i, &space_q, 0, pos, no_sums())
+    sums_on(rings, 0, pos, NO_SUMS)
 }
 
 // The sums for the next sample: over the places before the one after pos.
-pub(crate) fn next_sums(
-    mark_i: &[f64; 27],
-    mark_q: &[f64; 27],
-    space_i: &[f64; 27],
-    space_q: &[f64; 27],
-    pos: usize,
-    sums: Sums,
-) -> Sums
-    requires { (pos < 27) × Summed pos (rings_of mark_i.now mark_q.now space_i.now space_q.now) sums }
-    ensures { Summed (next_place pos) (rings_of mark_i.now mark_q.now space_i.now space_q.now) result }
+pub(crate) fn next_sums(rings: &Rings, pos: usize, sums: Sums) -> Sums
+    requires { (pos < 27) × Summed pos rings.now sums }
+    ensures { Summed (next_place pos) rings.now result }
 {
     if pos < 26 {
-        return with_place(sums, mark_i[pos], mark_q[pos], space_i[pos], space_q[pos]);
+        with_place(sums, rings, pos)
+    } else {
+        NO_SUMS
     }
-    no_sums()
 }
 
 // The soft decision, positive for mark; and the energy, which the difference throws away.
@@ -155,6 +135,7 @@ impl Correlator {
     }
 
     // The phases one sample on, and the next place.
+    #[tactic(auto, unfolding(crate::specs::Correlation::advanced))]
     pub(crate) fn advance(mut self) -> Correlator
         requires { self.pos < 27 }
         ensures { result ≡ advanced self }

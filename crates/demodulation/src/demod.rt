@@ -1,11 +1,9 @@
 // The 8,000 Hz part of the receiver: what one sample makes of its state, and what is heard in it.
 ghost use Rattle.std.specs.Prelude.{◌≡◌, ◌<◌};
 ghost use Rattle.demodulation.specs.Carrier.{yes_of};
-ghost use Rattle.demodulation.specs.Correlation.{rings_of};
 ghost use Rattle.demodulation.specs.Summing.{Summed};
 ghost use Rattle.demodulation.specs.Waves.{Waved};
 ghost use Rattle.demodulation.specs.Demod.{gate_after, latched, event_of, dropped_at, kept_by, step_of, fresh_demodulator, reported};
-ghost use Rattle.demodulation.specs.DemodRep.{demodulator, demodulator_of, step_with, stepped, Feeds, Finishes, DemodSound};
 
 use crate::carrier::{CarrierDetector, ToneDominance, Verdict};
 use crate::correlator::{Correlator, Rings, Sums, decide, multiply, sums_before, sums_on};
@@ -17,12 +15,11 @@ use framing::frame::{Deframer, Heard};
 use numeric::root::roots;
 use refusal::DSP_RATE;
 
-// What one step brought: a change of the carrier, or none.
+// A change of the carrier, as it is reported.
 #[derive(Clone, Copy)]
-pub enum Event {
-    Nothing,
-    CarrierUp,
-    CarrierDown,
+pub enum Carrier {
+    Up,
+    Down,
 }
 
 // What is reported: the detector, once a block was dominant.
@@ -45,41 +42,26 @@ fn gate_after(gate_open: bool, verdict: Verdict) -> bool
 
 impl Latch {
     // Modulated data is never dominant, so one dominant block qualifies the whole call.
+    #[tactic(auto, unfolding(crate::specs::Demod::latched))]
     fn see(self, gate_open: bool, detected: bool) -> Latch
         ensures { result ≡ latched self gate_open detected }
     {
-        if self.qualified_ever {
-            return Latch {
-                qualified: detected,
-                qualified_ever: true,
-            };
-        }
-        if gate_open {
-            return Latch {
-                qualified: detected,
-                qualified_ever: true,
-            };
-        }
+        let ever = self.qualified_ever || gate_open;
         Latch {
-            qualified: false,
-            qualified_ever: false,
+            qualified: ever && detected,
+            qualified_ever: ever,
         }
     }
 }
 
-fn event_of(before: bool, after: bool) -> Event
+fn event_of(before: bool, after: bool) -> Option<Carrier>
     ensures { result ≡ event_of before after }
 {
-    if before {
-        if after {
-            return Event::Nothing;
-        }
-        return Event::CarrierDown;
+    match (before, after) {
+        (false, true) => Some(Carrier::Up),
+        (true, false) => Some(Carrier::Down),
+        _ => None,
     }
-    if after {
-        return Event::CarrierUp;
-    }
-    Event::Nothing
 }
 
 // The state but for the rings: small enough to be handed on by value at each sample.
@@ -93,14 +75,16 @@ pub struct Core {
     pub latch: Latch,
     pub deframer: Deframer,
     pub kind: Kind,
+    pub ghost place: { corr.pos < 27 },
+    pub ghost byte: { deframer.acc < 256 },
 }
 
-// The core after a sample, and what came of it.
+// The core after a sample, and what came of it: beside `Step`, since the definitions tell the two apart.
 #[derive(Clone, Copy)]
 pub struct CoreStep {
     pub core: Core,
     pub heard: Heard,
-    pub event: Event,
+    pub event: Option<Carrier>,
 }
 
 #[derive(Clone, Copy)]
@@ -114,22 +98,17 @@ pub struct Demodulator {
 pub struct Step {
     pub state: Demodulator,
     pub heard: Heard,
-    pub event: Event,
+    pub event: Option<Carrier>,
 }
 
 // The deframer behind a step in which the detector goes from `was` to `up`: where it goes down, the half byte is dropped.
 fn dropped_at(was: bool, up: bool, d: Deframer) -> Deframer
     ensures { result ≡ dropped_at was up d }
 {
-    if was {
-        if up {
-            return d;
-        }
+    if was && !up {
         return Deframer {
             in_frame: false,
-            bit_count: d.bit_count,
-            acc: d.acc,
-            errors: d.errors,
+            ..d
         };
     }
     d
@@ -148,103 +127,86 @@ fn kept_by(kind: Kind, was: bool, up: bool, d: Deframer) -> Deframer
 // Its parts are stored field by field: a part stored whole takes the gap behind its flag along, and the next sample's load of that gap would
 // wait for the store.
 impl Core {
+    ghost use Rattle.demodulation.specs.DemodRep.{demodulator, step_with, Feeds, Finishes};
+
     // Phases, ring place; dominance.
+    #[tactic(auto, unfolding(crate::specs::Demod::fed))]
     fn feed(mut self, s: f64) -> Core
-        requires { self.corr.pos < 27 }
         ensures { Feeds self s result }
     {
-        let corr = self.corr;
-        let dominance = self.dominance;
-        let advanced = corr.advance();
-        let judged = dominance.feed(s);
-        let state = judged.state;
-        let verdict = judged.verdict;
-        self.corr.pos = advanced.pos;
-        self.corr.filled = advanced.filled;
-        self.corr.phase_m = advanced.phase_m;
-        self.corr.phase_s = advanced.phase_s;
-        self.corr.inc_m = advanced.inc_m;
-        self.corr.inc_s = advanced.inc_s;
-        self.dominance = state;
-        self.gate_open = gate_after(self.gate_open, verdict);
+        let next = self.corr.advance();
+        let judged = self.dominance.feed(s);
+        self.corr.pos = next.pos;
+        self.corr.filled = next.filled;
+        self.corr.phase_m = next.phase_m;
+        self.corr.phase_s = next.phase_s;
+        self.corr.inc_m = next.inc_m;
+        self.corr.inc_s = next.inc_s;
+        self.dominance = judged.state;
+        self.gate_open = gate_after(self.gate_open, judged.verdict);
         self
     }
 
     // Event; timing; slice, with the detector and the latch as this sample leaves them.
+    #[tactic(auto, unfolding(crate::specs::Demod::finished))]
     fn finish(mut self, carrier: CarrierDetector, latch: Latch, soft: f64) -> CoreStep
         ensures { Finishes self carrier latch soft result }
     {
-        let timing = self.timing;
-        let deframer = self.deframer;
         let event = event_of(self.latch.qualified, latch.qualified);
-        let kind = self.kind;
-        let t = timing.tick(kind, soft);
-        let ticked = t.state;
-        let pushed = slice(deframer, t.boundary, carrier.detected, soft);
-        let kind = self.kind;
-        let was = self.carrier.detected;
-        let sliced = pushed.state;
-        let framed = kept_by(kind, was, carrier.detected, sliced);
-        let heard = pushed.heard;
+        let t = self.timing.tick(self.kind, soft);
+        let pushed = slice(self.deframer, t.boundary, carrier.detected, soft);
+        let framed = kept_by(
+            self.kind,
+            self.carrier.detected,
+            carrier.detected,
+            pushed.state,
+        );
         self.carrier = carrier;
         self.latch = latch;
-        self.timing.sym_phase = ticked.sym_phase;
-        self.timing.sym_inc = ticked.sym_inc;
-        self.timing.last_sym = ticked.last_sym;
-        self.timing.mid_sym = ticked.mid_sym;
-        self.timing.have_mid = ticked.have_mid;
+        self.timing.sym_phase = t.state.sym_phase;
+        self.timing.sym_inc = t.state.sym_inc;
+        self.timing.last_sym = t.state.last_sym;
+        self.timing.mid_sym = t.state.mid_sym;
+        self.timing.have_mid = t.state.have_mid;
         self.deframer = framed;
         CoreStep {
             core: self,
-            heard,
+            heard: pushed.heard,
             event,
         }
     }
 
     // One sample, the rings lent, with their sums over the places before the sample's, and the tones' cosines and sines at it.
-    pub(crate) fn step(
-        self,
-        mark_i: &mut [f64; 27],
-        mark_q: &mut [f64; 27],
-        space_i: &mut [f64; 27],
-        space_q: &mut [f64; 27],
-        w: Quadrature,
-        sums: Sums,
-        s: f64,
-    ) -> CoreStep
-        requires { (self.corr.pos < 27)
-            × Summed self.corr.pos (rings_of mark_i.old mark_q.old space_i.old space_q.old) sums
-            × Waved self.corr w }
-        ensures { step_with (rings_of mark_i.new mark_q.new space_i.new space_q.new) result
-            ≡ step_of (demodulator (rings_of mark_i.old mark_q.old space_i.old space_q.old) self) s }
+    pub(crate) fn step(self, rings: &mut Rings, w: Quadrature, sums: Sums, s: f64) -> CoreStep
+        requires { Summed self.corr.pos rings.old sums × Waved self.corr w }
+        ensures { step_with rings.new result ≡ step_of (demodulator rings.old self) s }
     {
         let corr = self.corr;
-        multiply(mark_i, mark_q, corr.pos, w.mark_i, w.mark_q, s);
-        multiply(space_i, space_q, corr.pos, w.space_i, w.space_q, s);
+        multiply(rings, corr, w, s);
         let fed = self.feed(s);
         if !fed.corr.filled {
             return CoreStep {
                 core: fed,
                 heard: Heard::Waiting,
-                event: Event::Nothing,
+                event: None,
             };
         }
-        let t = sums_on(mark_i, mark_q, space_i, space_q, corr.pos, 27, sums);
+        let t = sums_on(rings, corr.pos, 27, sums);
         let m = roots(t.mark_i, t.mark_q, t.space_i, t.space_q);
         let o = decide(m.first, m.second);
-        let detector = fed.carrier;
-        let report = fed.latch;
-        let carrier = detector.update(o.energy);
-        let latch = report.see(fed.gate_open, carrier.detected);
+        let carrier = fed.carrier.update(o.energy);
+        let latch = fed.latch.see(fed.gate_open, carrier.detected);
         fed.finish(carrier, latch, o.soft)
     }
 }
 
 impl Demodulator {
+    ghost use Rattle.demodulation.specs.DemodRep.{demodulator_of, stepped};
+
     // It listens on the other role's tones.
+    #[tactic(auto, unfolding(crate::specs::Demod::fresh_demodulator))]
     pub fn new(kind: Kind, role: Role) -> Demodulator
         ensures result_value { demodulator_of result ≡ fresh_demodulator kind role }
-        ensures demod_sound { DemodSound result }
     {
         let far = tones(role.listen());
         let own = tones(role);
@@ -257,21 +219,17 @@ impl Demodulator {
         };
         let corr = Correlator::new(far.mark, far.space);
         let dominance = ToneDominance::new(far.mark, own.mark, own.space, DSP_RATE as f64);
-        let carrier = CarrierDetector::new();
-        let latch = Latch {
-            qualified: false,
-            qualified_ever: false,
-        };
-        let timing = Timing::new();
-        let deframer = Deframer::new();
         let core = Core {
             corr,
             dominance,
             gate_open: false,
-            carrier,
-            latch,
-            timing,
-            deframer,
+            carrier: CarrierDetector::new(),
+            latch: Latch {
+                qualified: false,
+                qualified_ever: false,
+            },
+            timing: Timing::new(),
+            deframer: Deframer::new(),
             kind,
         };
         Demodulator { rings, core }
@@ -279,78 +237,41 @@ impl Demodulator {
 
     // One sample.
     pub fn step(self, s: f64) -> Step
-        requires { DemodSound self }
         ensures result_value { stepped result ≡ step_of (demodulator_of self) s }
-        ensures demod_sound { DemodSound result.state }
     {
-        let rings = self.rings;
-        let mut mark_i = rings.mark_i;
-        let mut mark_q = rings.mark_q;
-        let mut space_i = rings.space_i;
-        let mut space_q = rings.space_q;
-        let core = self.core;
-        let corr = core.corr;
-        let sums = sums_before(mark_i, mark_q, space_i, space_q, corr.pos);
+        let mut rings = self.rings;
+        let corr = self.core.corr;
+        let sums = sums_before(&rings, corr.pos);
         let w = waves(corr.phase_m, corr.phase_s);
-        let t = core.step(
-            &mut mark_i,
-            &mut mark_q,
-            &mut space_i,
-            &mut space_q,
-            w,
-            sums,
-            s,
-        );
-        let heard = t.heard;
-        let event = t.event;
-        let next = t.core;
-        let state = Demodulator::of_parts(mark_i, mark_q, space_i, space_q, next);
+        let t = self.core.step(&mut rings, w, sums, s);
+        let state = Demodulator {
+            rings,
+            core: t.core,
+        };
         Step {
             state,
-            heard,
-            event,
+            heard: t.heard,
+            event: t.event,
         }
-    }
-
-    // From the rings and the core apart.
-    pub(crate) fn of_parts(
-        mark_i: [f64; 27],
-        mark_q: [f64; 27],
-        space_i: [f64; 27],
-        space_q: [f64; 27],
-        core: Core,
-    ) -> Demodulator
-        ensures { demodulator_of result ≡ demodulator (rings_of mark_i mark_q space_i space_q) core }
-    {
-        let rings = Rings {
-            mark_i,
-            mark_q,
-            space_i,
-            space_q,
-        };
-        Demodulator { rings, core }
     }
 
     // Its parts, to be looked at.
     pub fn rings(self) -> Rings
         ensures { result ≡ self.rings }
     {
-        let rings = self.rings;
-        rings
+        self.rings
     }
 
     pub fn core(self) -> Core
         ensures { result ≡ self.core }
     {
-        let core = self.core;
-        core
+        self.core
     }
 
     pub fn deframer(self) -> Deframer
         ensures { result ≡ (demodulator_of self).deframer }
     {
-        let deframer = self.core.deframer;
-        deframer
+        self.core.deframer
     }
 
     // The latched report.

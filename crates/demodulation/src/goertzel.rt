@@ -28,9 +28,9 @@ impl Goertzel {
     {
         let s0 = x + self.coeff * self.s1 - self.s2;
         Goertzel {
-            coeff: self.coeff,
             s1: s0,
             s2: self.s1,
+            ..self
         }
     }
 
@@ -44,9 +44,9 @@ impl Goertzel {
         ensures { result ≡ goertzel_reset self }
     {
         Goertzel {
-            coeff: self.coeff,
             s1: 0.0,
             s2: 0.0,
+            ..self
         }
     }
 }

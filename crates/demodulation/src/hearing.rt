@@ -3,15 +3,16 @@ ghost use Rattle.std.specs.Prelude.{◌≡◌, [], ◌∷◌, ◌≤◌, ◌<◌
 ghost use Rattle.happenings.specs.Happening.{happening_of};
 ghost use Rattle.happenings.specs.Codes.{most_steps, most_codes, Codes};
 ghost use Rattle.demodulation.specs.Demod.{fall_of, change_of, word_of, happens_at};
-ghost use Rattle.demodulation.specs.DemodRep.{DemodSound};
 ghost use Rattle.demodulation.specs.Listening.{Put, Hearable, HearsInto};
 
 use crate::correlator::{next_sums, sums_before};
-use crate::demod::{Demodulator, Event};
+use crate::demod::{Carrier, Demodulator};
 use crate::waves::{waves, waves_ahead};
 use framing::frame::Heard;
+use refusal::Counting;
 
-// The codes of a bad stop, of a loss, and of a change of the report; a byte is its own.
+// The codes of a bad stop, of a loss, and of a change of the report; a byte is its own. Numbers, for fixed memory: two bytes each in a lent array,
+// which `happening_of` turns back.
 const BAD_STOP: u16 = 256;
 
 const LOST: u16 = 257;
@@ -20,7 +21,7 @@ const UP: u16 = 258;
 
 const DOWN: u16 = 259;
 
-// One more code, behind the first n. Answers how many there are.
+// One more code, behind the first n. Answers how many there are. The array is lent and its count handed on apart, so that the loop copies nothing.
 fn put(codes: &mut [u16; 2052], n: usize, code: u16) -> usize
     requires { (n < most_codes) × Codes codes.old }
     ensures { Put n codes.old (happening_of code ∷ []) result codes.new }
@@ -29,29 +30,25 @@ fn put(codes: &mut [u16; 2052], n: usize, code: u16) -> usize
     n + 1
 }
 
-// The detector goes down.
+// The detector goes down. Both its states, as the definition has them: one flag for a fall would say no more.
+#[tactic(auto, unfolding(happenings::specs::Happening::happening_of))]
 fn put_fall(codes: &mut [u16; 2052], n: usize, was: bool, up: bool) -> usize
     requires { (n + length (fall_of was up) ≤ most_codes) × Codes codes.old }
     ensures { Put n codes.old (fall_of was up) result codes.new }
 {
-    if was {
-        if up {
-            return n;
-        }
-        return put(codes, n, LOST);
-    }
-    n
+    if was && !up { put(codes, n, LOST) } else { n }
 }
 
 // A change of the report.
-fn put_change(codes: &mut [u16; 2052], n: usize, event: Event) -> usize
+#[tactic(auto, unfolding(happenings::specs::Happening::happening_of))]
+fn put_change(codes: &mut [u16; 2052], n: usize, event: Option<Carrier>) -> usize
     requires { (n + length (change_of event) ≤ most_codes) × Codes codes.old }
     ensures { Put n codes.old (change_of event) result codes.new }
 {
     match event {
-        Event::Nothing => n,
-        Event::CarrierUp => put(codes, n, UP),
-        Event::CarrierDown => put(codes, n, DOWN),
+        None => n,
+        Some(Carrier::Up) => put(codes, n, UP),
+        Some(Carrier::Down) => put(codes, n, DOWN),
     }
 }
 
@@ -62,15 +59,13 @@ fn byte_code(b: u8) -> u16
 }
 
 // What a bit completed.
+#[tactic(auto, unfolding(happenings::specs::Happening::happening_of))]
 fn put_word(codes: &mut [u16; 2052], n: usize, heard: Heard) -> usize
     requires { (n + length (word_of heard) ≤ most_codes) × Codes codes.old }
     ensures { Put n codes.old (word_of heard) result codes.new }
 {
     match heard {
-        Heard::Byte(b) => {
-            let code = byte_code(b);
-            put(codes, n, code)
-        }
+        Heard::Byte(b) => put(codes, n, byte_code(b)),
         Heard::Waiting => n,
         Heard::BadStop => put(codes, n, BAD_STOP),
     }
@@ -82,7 +77,7 @@ fn put_step(
     n: usize,
     was: bool,
     up: bool,
-    event: Event,
+    event: Option<Carrier>,
     heard: Heard,
 ) -> usize
     requires { (n + length (happens_at was up event heard) ≤ most_codes) × Codes codes.old }
@@ -93,58 +88,34 @@ fn put_step(
     put_word(codes, b, heard)
 }
 
-// The demodulator after samples, and how much happened.
-#[derive(Clone, Copy)]
-pub struct HeardAll {
-    pub state: Demodulator,
-    pub count: usize,
-}
-
 // Hears each sample. What changes at a sample is small or lent. The next sample's cosines and sines wait for nothing of this one, and so are taken
 // before it is heard, beside it.
-fn hear_each(d: Demodulator, samples: &[f64], codes: &mut [u16; 2052]) -> HeardAll
-    requires { Hearable d samples.now codes.old }
+fn hear_each(d: Demodulator, samples: &[f64], codes: &mut [u16; 2052]) -> Counting<Demodulator>
+    requires { Hearable samples.now codes.old }
     ensures { HearsInto d samples.now codes.old result codes.new }
 {
-    let rings = d.rings;
-    let mut mark_i = rings.mark_i;
-    let mut mark_q = rings.mark_q;
-    let mut space_i = rings.space_i;
-    let mut space_q = rings.space_q;
+    let mut rings = d.rings;
     let mut core = d.core;
-    let corr = core.corr;
-    let mut sums = sums_before(mark_i, mark_q, space_i, space_q, corr.pos);
-    let mut w = waves(corr.phase_m, corr.phase_s);
+    let mut sums = sums_before(&rings, core.corr.pos);
+    let mut w = waves(core.corr.phase_m, core.corr.phase_s);
     let mut count = 0;
-    let mut i = 0;
-    while i < samples.len() {
+    for &s in samples {
         let place = core.corr;
         let was = core.carrier.detected;
         let ahead = waves_ahead(place);
-        let t = core.step(
-            &mut mark_i,
-            &mut mark_q,
-            &mut space_i,
-            &mut space_q,
-            w,
-            sums,
-            samples[i],
-        );
-        sums = next_sums(&mark_i, &mark_q, &space_i, &space_q, place.pos, sums);
-        let heard = t.heard;
-        let event = t.event;
+        let t = core.step(&mut rings, w, sums, s);
+        sums = next_sums(&rings, place.pos, sums);
         core = t.core;
         w = ahead;
-        count = put_step(codes, count, was, core.carrier.detected, event, heard);
-        i += 1;
+        count = put_step(codes, count, was, core.carrier.detected, t.event, t.heard);
     }
-    let state = Demodulator::of_parts(mark_i, mark_q, space_i, space_q, core);
-    HeardAll { state, count }
+    let state = Demodulator { rings, core };
+    Counting { state, count }
 }
 
 // Hears the first 1,026 samples, which is what the codes have room for.
-pub fn hear(d: Demodulator, samples: &[f64], codes: &mut [u16; 2052]) -> HeardAll
-    requires { DemodSound d × Codes codes.old }
+pub fn hear(d: Demodulator, samples: &[f64], codes: &mut [u16; 2052]) -> Counting<Demodulator>
+    requires { Codes codes.old }
     ensures { HearsInto d (take most_steps samples.now) codes.old result codes.new }
 {
     if samples.len() <= 1026 {

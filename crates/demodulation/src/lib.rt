@@ -22,6 +22,6 @@ mod timing;
 mod waves;
 
 pub use carrier::Verdict;
-pub use demod::{Core, Demodulator, Event, Step};
-pub use hearing::{HeardAll, hear};
+pub use demod::{Carrier, Core, Demodulator, Step};
+pub use hearing::hear;
 pub use kind::Kind;

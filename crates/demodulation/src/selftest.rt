@@ -6,26 +6,18 @@ ghost use Rattle.demodulation.specs.Selftest.{rise_of, block_says};
 pub use crate::carrier::Verdict;
 use crate::carrier::{CarrierDetector, ToneDominance};
 
-#[derive(Clone, Copy)]
-pub enum Rise {
-    At(u32),
-    Never,
-}
-
 // The first of at most `updates` updates with one energy at which a fresh detector is up.
-pub fn detector_rise(energy: f64, updates: u32) -> Rise
+pub fn detector_rise(energy: f64, updates: u32) -> Option<u32>
     ensures { result ≡ rise_of energy updates }
 {
     let mut d = CarrierDetector::new();
-    let mut done = 0u32;
-    while done < updates {
+    for done in 0..updates {
         d = d.update(energy);
-        done += 1;
         if d.detected {
-            return Rise::At(done);
+            return Some(done + 1);
         }
     }
-    Rise::Never
+    None
 }
 
 // The verdict on a fresh block of 256 samples, all x, at 8,000 Hz.
@@ -34,9 +26,7 @@ pub fn block_verdict(mark_hz: f64, own_mark_hz: f64, own_space_hz: f64, x: f64) 
 {
     let mut d = ToneDominance::new(mark_hz, own_mark_hz, own_space_hz, 8000.0);
     for _ in 0..255usize {
-        let j = d.feed(x);
-        d = j.state;
+        d = d.feed(x).state;
     }
-    let j = d.feed(x);
-    j.verdict
+    d.feed(x).verdict
 }

@@ -10,7 +10,8 @@ use numeric::compare::absolute;
 
 const GARDNER_GAIN: f64 = 0.15;
 
-// Symbol timing: a phase that runs from one symbol boundary, at 1.0, to the next.
+// Symbol timing: a phase that runs from one symbol boundary, at 1.0, to the next. The flag stands beside the midpoint, as in the Rust: both are shown
+// to C, number by number.
 #[derive(Clone, Copy)]
 pub struct Timing {
     pub sym_phase: f64,
@@ -20,7 +21,7 @@ pub struct Timing {
     pub have_mid: bool,
 }
 
-// The timing after a sample, and whether the sample ended a symbol.
+// The timing after a sample, and whether the sample ended a symbol: a pair of its own, whose second name says more than a general one would.
 #[derive(Clone, Copy)]
 pub struct Ticked {
     pub state: Timing,
@@ -28,6 +29,7 @@ pub struct Ticked {
 }
 
 // The Gardner error. The level divides twice, so that the loop's gain does not depend on it; nothing else limits a bare receiver's error.
+#[tactic(auto, unfolding(crate::specs::Timing::error_of))]
 fn error_of(soft: f64, last: f64, mid: f64) -> f64
     ensures { result ≡ error_of soft last mid }
 {
@@ -36,16 +38,15 @@ fn error_of(soft: f64, last: f64, mid: f64) -> f64
 }
 
 // From -1.0 to 1.0. A NaN is not at most 1.0, so it falls to that end.
+#[tactic(auto, unfolding(crate::specs::Timing::held_error))]
 fn held_error(e: f64) -> f64
     ensures { result ≡ held_error e }
 {
     if e <= 1.0 {
-        if e >= -1.0 {
-            return e;
-        }
-        return -1.0;
+        if e >= -1.0 { e } else { -1.0 }
+    } else {
+        1.0
     }
-    1.0
 }
 
 // A board's error is held, so that no click can move its next boundary far away.
@@ -79,22 +80,21 @@ impl Timing {
     }
 
     // The phase one sample on, and the midpoint where it passes 0.5.
+    #[tactic(auto, unfolding(crate::specs::Timing::crossed))]
     fn cross(mut self, soft: f64) -> Timing
         ensures { result ≡ crossed self soft }
     {
         let prev = self.sym_phase;
         self.sym_phase = prev + self.sym_inc;
-        if prev < 0.5 {
-            if self.sym_phase >= 0.5 {
-                self.mid_sym = soft;
-                self.have_mid = true;
-                return self;
-            }
+        if prev < 0.5 && self.sym_phase >= 0.5 {
+            self.mid_sym = soft;
+            self.have_mid = true;
         }
         self
     }
 
     // A symbol's end; the next one begins without a midpoint.
+    #[tactic(auto, unfolding(crate::specs::Timing::bounded))]
     fn symbol_boundary(mut self, kind: Kind, soft: f64) -> Timing
         ensures { result ≡ bounded kind self soft }
     {
@@ -112,14 +112,14 @@ impl Timing {
     }
 
     // At most one boundary a sample.
+    #[tactic(auto, unfolding(crate::specs::Timing::ticked))]
     pub(crate) fn tick(self, kind: Kind, soft: f64) -> Ticked
         ensures { result ≡ ticked kind self soft }
     {
         let t = self.cross(soft);
         if t.sym_phase >= 1.0 {
-            let state = t.symbol_boundary(kind, soft);
             return Ticked {
-                state,
+                state: t.symbol_boundary(kind, soft),
                 boundary: true,
             };
         }
@@ -131,13 +131,12 @@ impl Timing {
 }
 
 // A bit for the deframer at a boundary while the detector is up. A tie is a mark, the idle line's state.
+#[tactic(auto, unfolding(crate::specs::Timing::sliced))]
 pub fn slice(deframer: Deframer, boundary: bool, detected: bool, soft: f64) -> Pushed
     ensures { deframed result ≡ sliced deframer boundary detected soft }
 {
-    if boundary {
-        if detected {
-            return deframer.push_bit(soft >= 0.0);
-        }
+    if boundary && detected {
+        return deframer.push_bit(soft >= 0.0);
     }
     Pushed {
         state: deframer,

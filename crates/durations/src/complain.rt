@@ -22,19 +22,5 @@ pub fn of_output() {
 
 // The number of a refusal, and why.
 pub fn of_refusal(r: Refusal) {
-    io::write_all(2, b"durations: ");
-    io::print_decimal(2, r.number() as u64);
-    match r {
-        Refusal::Rate => {
-            io::write_all(2, b": RATE is a number from 8000 to 48000");
-        }
-        Refusal::TooManyLengths => {
-            io::write_all(2, b": there are more than 1000 lengths");
-        }
-        Refusal::TooManyBits => {
-            io::write_all(2, b": a length is more than 1048576 bits");
-        }
-        _ => {}
-    }
-    io::write_all(2, b"\n");
+    console::complain_of(b"durations", r);
 }

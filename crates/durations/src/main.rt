@@ -10,8 +10,7 @@
 mod complain;
 mod tell;
 
-use console::{Input, number_word, read_numbers, word_count};
-use numeric::ends::smaller;
+use console::{InputError, number_word, read_numbers, word_count};
 
 // One length more than are summed, so that a list that is too long is seen to be so.
 const ROOM: usize = 1001;
@@ -22,14 +21,10 @@ fn main(rt: HostRuntime) {
         return;
     }
     let rate = number_word(&rt, 1) as u32;
-    let mut lengths = [0u64; 1001];
-    let input = read_numbers(&mut rt.stdin(), &mut lengths);
-    match input {
-        Input::Numbers(n) => {
-            let k = smaller(n as usize, ROOM);
-            tell::all(rate, &lengths[..k]);
-        }
-        Input::WrongLine(line) => complain::of_line(line),
-        Input::Unreadable => complain::of_input(),
+    let mut lengths = [0u64; ROOM];
+    match read_numbers(&mut rt.stdin(), &mut lengths) {
+        Ok(n) => tell::all(rate, &lengths[..ROOM.min(n as usize)]),
+        Err(InputError::WrongLine(line)) => complain::of_line(line),
+        Err(InputError::Unreadable) => complain::of_input(),
     }
 }

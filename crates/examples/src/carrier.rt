@@ -1,15 +1,15 @@
 // The detector on one energy, and a block of zero samples.
 use crate::print;
 use bell103::{Role, tones};
-use demodulation::selftest::{Rise, Verdict, block_verdict, detector_rise};
+use demodulation::selftest::{Verdict, block_verdict, detector_rise};
 
-fn rise(r: Rise, updates: u32) {
+fn rise(r: Option<u32>, updates: u32) {
     match r {
-        Rise::At(k) => {
+        Some(k) => {
             print::text(b"up at update ");
             print::number(k as u64);
         }
-        Rise::Never => {
+        None => {
             print::text(b"never up in ");
             print::number(updates as u64);
             print::text(b" updates");

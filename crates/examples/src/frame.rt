@@ -3,11 +3,7 @@ use crate::print;
 use framing::frame::{Deframer, Heard, frame_byte};
 
 fn bit(mark: bool) {
-    if mark {
-        print::text(b"1");
-    } else {
-        print::text(b"0");
-    }
+    print::text(if mark { b"1" } else { b"0" });
 }
 
 // Start bit, two groups of four data bits, stop bit.
@@ -67,8 +63,8 @@ fn errors_and_place(d: Deframer) {
 // Ten bits from idle: the bytes heard, the errors, and where that leaves the deframer.
 fn ten_bits(bits: [bool; 10]) {
     let mut d = Deframer::new();
-    for i in 0..10usize {
-        d = push(d, bits[i]);
+    for mark in bits {
+        d = push(d, mark);
     }
     errors_and_place(d);
     print::end_line();

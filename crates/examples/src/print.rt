@@ -1,5 +1,5 @@
 // Words, numbers and answers on standard output.
-use refusal::{Acceptance, Counted, Refusal};
+use refusal::Refusal;
 
 pub fn text(words: &[u8]) {
     io::write_all(1, words);
@@ -27,26 +27,26 @@ pub fn rates(src: u32, dst: u32) {
 
 fn refusal(r: Refusal) {
     text(b"refused ");
-    number(r.number() as u64);
+    number(u32::from(r) as u64);
 }
 
-pub fn acceptance(a: Acceptance) {
+pub fn acceptance(a: Result<(), Refusal>) {
     match a {
-        Acceptance::Accepted => {
+        Ok(()) => {
             text(b"accepted");
         }
-        Acceptance::Refused(r) => {
+        Err(r) => {
             refusal(r);
         }
     }
 }
 
-pub fn count(c: Counted) {
+pub fn count(c: Result<usize, Refusal>) {
     match c {
-        Counted::Count(n) => {
+        Ok(n) => {
             number(n as u64);
         }
-        Counted::Refused(r) => {
+        Err(r) => {
             refusal(r);
         }
     }

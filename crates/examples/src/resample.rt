@@ -57,10 +57,9 @@ fn differing(a: &[f64], b: &[f64]) -> usize {
         return a.len();
     }
     let mut n = 0;
-    let mut i = 0;
-    while i < a.len() {
+    // An index: two slices are walked side by side, and a zip with a filter reads no plainer.
+    for i in 0..a.len() {
         n += differ(a[i], b[i]);
-        i += 1;
     }
     n
 }

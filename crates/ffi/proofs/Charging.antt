@@ -1,44 +1,25 @@
 -- The line charge as numbers. Assumes nothing.
-use Prim.Native.Nat.{ℕ, ◌≤◌, ◌<◌}
+use Prim.Native.Nat.{ℕ, ◌≤◌}
 use mathlib.Core.Path.{◌≡◌, refl, ap, ◌∙◌}
 use mathlib.Core.List.{List, [], ◌∷◌}
 use native.Mathlib.Omega.{arith}
-use borrow.Author.Tests.{lt-ltb, le-ltb}
 use lib.IntN.{ℤ, pos}
-use lib.ListN.{length, set, drop}
 use Rattle.refusal.specs.Refusals.{Reply, given}
 use Rattle.charges.specs.declared.Month.{Month}
 use Rattle.charges.specs.Charge.{month_of, month_charge_of}
 use Rattle.charges.proofs.MonthLaws.{accepted}
 use Rattle.calls.specs.Answers.{number_in}
+use Rattle.ffi.specs.Durations.{at_front}
 use Rattle.ffi.specs.Charge.{most_shown, laid_call, laid_month}
 
 -- ---- a call's charge, and a month's
-set-one : (l : List ℕ) (a : ℕ) → 1 ≤ length l → set l 0 a ≡ a ∷ drop 1 l
-set-one [] a h = absurd (omega arith)
-set-one (x ∷ l) a h = refl
+pub call-row : (n : ℕ) (out : List ℕ) → at_front (n ∷ []) out ≡ laid_call n out
+unfolding laid_call at_front
+call-row n out = refl
 
-pub no-room-call : (n : ℕ) (out : List ℕ) → length out < 1 → out ≡ laid_call n out
-unfolding laid_call
-no-room-call n out h = rw (lt-ltb (length out) 1 h) refl
-
-pub room-call : (n : ℕ) (out : List ℕ) → 1 ≤ length out → set out 0 n ≡ laid_call n out
-unfolding laid_call
-room-call n out h = rw (le-ltb (length out) 1 h) (set-one out n h)
-
-set-three : (l : List ℤ) (a b c : ℤ) → 3 ≤ length l → set (set (set l 0 a) 1 b) 2 c ≡ a ∷ b ∷ c ∷ drop 3 l
-set-three [] a b c h = absurd (omega arith)
-set-three (x ∷ []) a b c h = absurd (omega arith)
-set-three (x ∷ y ∷ []) a b c h = absurd (omega arith)
-set-three (x ∷ y ∷ z ∷ l) a b c h = refl
-
-pub no-room-month : (m : Month) (out : List ℤ) → length out < 3 → out ≡ laid_month m out
-unfolding laid_month
-no-room-month m out h = rw (lt-ltb (length out) 3 h) refl
-
-pub room-month : (m : Month) (out : List ℤ) → 3 ≤ length out → set (set (set out 0 (pos m.thousandths)) 1 (pos m.pence)) 2 m.part ≡ laid_month m out
-unfolding laid_month
-room-month m out h = rw (le-ltb (length out) 3 h) (set-three out _ _ _ h)
+pub month-row : (m : Month) (out : List ℤ) → at_front (pos m.thousandths ∷ pos m.pence ∷ m.part ∷ []) out ≡ laid_month m out
+unfolding laid_month at_front
+month-row m out = refl
 
 -- a month's numbers have room
 pub fits-shown : (rate : ℕ) (calls : List ℕ) (m : Month) → month_charge_of rate calls ≡ given m → (m.thousandths ≤ most_shown) × (m.pence ≤ most_shown)

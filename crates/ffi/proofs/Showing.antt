@@ -7,7 +7,7 @@ use borrow.Author.Tests.{eqb-true, eqb-false}
 use lib.Dec.{eqb}
 use lib.ListN.{drop}
 use lib.Ieee.{Float}
-use Rattle.refusal.specs.Refusals.{reply_of, acceptance_of}
+use Rattle.refusal.specs.Refusals.{reply_of, reply_in}
 use Rattle.bell103.specs.declared.Role.{Role}
 use Rattle.board.specs.Plain.{fresh, new_number, new_of}
 use Rattle.board.specs.BoardRep.{plain_of}
@@ -50,7 +50,7 @@ module _ (rate station n : ℕ) (s : List Float) (ns a sh : List ℕ) (g : Liste
 
 -- shown where the answer of `listen` has no number
 pub heard : (rate station n : ℕ) (s : List Float) (ns a sh : List ℕ) (role : Role) (g : Listened) (a' sh' : List ℕ) (k : ℕ)
-    → role ≡ role_of n → Listens rate station role s ns a g a' → k ≡ number_in (acceptance_of g.answer) → sh' ≡ shown_in k (plain_of g.state) sh
+    → role ≡ role_of n → Listens rate station role s ns a g a' → k ≡ number_in (reply_in g.answer) → sh' ≡ shown_in k (plain_of g.state) sh
     → Heard rate station n s ns a sh (ran g.writes a' sh')
 heard rate station n s ns a sh role g a' sh' k role-is did number_is shown-is =
     heard-so rate station n s ns a sh g a' sh'

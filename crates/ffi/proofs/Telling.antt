@@ -2,23 +2,21 @@
 use Prim.Native.Nat.{ℕ, ◌+◌, ◌<◌, ◌≤◌}
 use mathlib.Core.Path.{◌≡◌, refl, sym, ap, ◌∙◌}
 use mathlib.Core.List.{List, ◌++◌}
-use native.Mathlib.Omega.{arith}
+use native.Mathlib.Nat.{zero-add}
 use borrow.Author.Tests.{lt-ltb, le-ltb}
 use lib.ListN.{length, drop}
-use lib.Seq.{sets, sets-eq}
 use Rattle.refusal.specs.Refusals.{Reply, given, refused}
 use Rattle.ffi.specs.Settings.{told}
 use Rattle.ffi.specs.Durations.{at_front, told_by}
 
-pub no_room : (ns out : List ℕ) → length out < length ns → out ≡ at_front ns out
-unfolding at_front
-no_room ns out h = rw (lt-ltb (length out) (length ns) h) refl
+module _ {A : Type 0} (ns out : List A) where
+  pub no_room : length out < length ns → out ≡ at_front ns out
+  unfolding at_front
+  no_room h = rw (lt-ltb (length out) (length ns) h) refl
 
-pub with-room : (ns out : List ℕ) → length ns ≤ length out → sets out 0 ns ≡ at_front ns out
-unfolding at_front
-with-room ns out h =
-    let z : 0 + length ns ≡ length ns = omega arith in
-    rw (le-ltb (length out) (length ns) h) (sets-eq ns out 0 (omega arith) ∙ ap (λ (k : ℕ). ns ++ drop k out) z)
+  pub with-row : length ns ≤ length out → ns ++ drop (length ns) out ≡ at_front ns out
+  unfolding at_front
+  with-row h = rw (le-ltb (length out) (length ns) h) refl
 
 -- what is told of a reply
 module _ {A : Type 0} (f : A → List ℕ) (out : List ℕ) (a r : Reply A) (says : a ≡ r) where

@@ -9,7 +9,7 @@ use Rattle.bell103.specs.Durations.{exact_reply, sum_reply}
 use Rattle.ffi.specs.Settings.{Told, told}
 
 -- numbers at the front of a slice; nothing where there is no room for all of them
-unfoldable pub at_front : List ℕ → List ℕ → List ℕ
+unfoldable pub at_front : {A : Type 0} → List A → List A → List A
 at_front ns out = if ltb (length out) (length ns) then out else ns ++ drop (length ns) out
 
 -- quotient, remainder, and the rounded count

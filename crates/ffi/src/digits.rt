@@ -2,7 +2,7 @@
 ghost use Rattle.std.specs.Prelude.{◌≡◌};
 ghost use Rattle.ffi.specs.Digits.{test_run};
 
-use hexadecimal::{Digits, test_digits};
+use hexadecimal::test_digits;
 
 // The place of the first character that is no digit, counted from 0; how many there are, where all are digits.
 pub fn morkhetta_test_digits(characters: &[u8]) -> usize
@@ -10,7 +10,7 @@ pub fn morkhetta_test_digits(characters: &[u8]) -> usize
 {
     let answer = test_digits(characters);
     match answer {
-        Digits::AllDigits => characters.len(),
-        Digits::WrongAt(place) => place,
+        None => characters.len(),
+        Some(place) => place,
     }
 }

@@ -1,30 +1,19 @@
 // Three gauges, one level, exported to C.
 ghost use Rattle.std.specs.Prelude.{◌≡◌};
-ghost use Rattle.tide.specs.JudgeRep.{read_of, shown_of};
-ghost use Rattle.ffi.specs.Gauges.{gauge_of, laid, told, pool_run};
+ghost use Rattle.tide.specs.JudgeRep.{shown_of};
+ghost use Rattle.ffi.specs.Gauges.{gauge_of, told, pool_run};
 
-use pooling::Pooled;
-use tide::{Reading, Shown};
+use crate::row::lay;
+use tide::Reading;
 
 // A gauge's reading; the level -32,768 says that it is missing.
-fn gauge(water: u32, level: i16) -> Shown
+fn gauge(water: u32, level: i16) -> Option<Reading>
     ensures { shown_of result ≡ gauge_of water level }
 {
     if level < -32767 {
-        return Shown::None;
+        return None;
     }
-    Shown::Shows(Reading { water, level })
-}
-
-// Minute and level at the front of a slice, where it has room for them.
-fn lay(out: &mut [i64], reading: Reading)
-    ensures { out.new ≡ laid (read_of reading) out.old }
-{
-    if out.len() < 2 {
-        return;
-    }
-    out[0] = reading.water as i64;
-    out[1] = reading.level as i64;
+    Some(Reading { water, level })
 }
 
 // What three gauges show together, and 0; or 46.
@@ -44,10 +33,13 @@ pub fn morkhetta_pool(
     let c = gauge(water3, level3);
     let answer = pooling::pool(a, b, c);
     match answer {
-        Pooled::Given(reading) => {
-            lay(pooled, reading);
+        Ok(reading) => {
+            lay(
+                pooled,
+                &[i64::from(reading.water), i64::from(reading.level)],
+            );
             0
         }
-        Pooled::Refused(r) => r.number(),
+        Err(r) => u32::from(r),
     }
 }

@@ -10,5 +10,6 @@ pub mod gauges;
 pub mod listen;
 pub mod receive;
 pub mod resample;
+mod row;
 pub mod send;
 pub mod settings;

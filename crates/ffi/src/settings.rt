@@ -4,13 +4,13 @@ ghost use Rattle.store.specs.Line.{role_byte};
 ghost use Rattle.store.specs.Store.{write_of};
 ghost use Rattle.calls.specs.Answers.{number_in};
 ghost use Rattle.calls.specs.Roles.{role_of};
-ghost use Rattle.ffi.specs.Settings.{laid, told, read_run};
+ghost use Rattle.ffi.specs.Settings.{told, read_run};
 
+use crate::row::lay;
 use bell103::Role;
 use calls::{number_in, role_of};
-use store::{Found, Stored};
 
-// A role as a number.
+// A role as a number of the C interface.
 fn role_number(role: Role) -> u64
     ensures { result ≡ role_byte role }
 {
@@ -20,32 +20,22 @@ fn role_number(role: Role) -> u64
     }
 }
 
-// Four numbers at the front of a slice, where it has room for them.
-fn lay(out: &mut [u64], found: Found)
-    ensures { out.new ≡ laid found out.old }
-{
-    let settings = found.settings;
-    let role = settings.role;
-    if out.len() < 4 {
-        return;
-    }
-    out[0] = settings.rate as u64;
-    out[1] = settings.station as u64;
-    out[2] = role_number(role);
-    out[3] = found.unknown as u64;
-}
-
 // The settings that count in a store, and 0; or 40.
 pub fn morkhetta_settings_read(buffer: &[u8], settings: &mut [u64]) -> u32
     ensures { told result settings.new ≡ read_run buffer.now settings.old }
 {
     let answer = store::read(buffer);
     match answer {
-        Stored::Given(found) => {
-            lay(settings, found);
+        Ok(found) => {
+            let s = found.settings;
+            let role = role_number(s.role);
+            lay(
+                settings,
+                &[s.rate as u64, s.station as u64, role, found.unknown as u64],
+            );
             0
         }
-        Stored::Refused(r) => r.number(),
+        Err(r) => u32::from(r),
     }
 }
 

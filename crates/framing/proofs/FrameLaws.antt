@@ -7,16 +7,11 @@ use lib.Bits.{or_shifted_r}
 use borrow.Author.Tests.{lt-ltb, le-ltb}
 use Rattle.std.specs.Prelude.{if◌then◌else◌}
 use Rattle.framing.specs.declared.frame.Deframer.{Deframer}
-use Rattle.framing.specs.declared.frame.Pushed.{Pushed}
-use Rattle.framing.specs.Frame.{mark, space, Deframed, bytes_of, deframed, idle_bit, with_bit, data_bit, stop_bit, frame_bit, push_bit, Pushes}
+use Rattle.framing.specs.Frame.{mark, idle_bit, with_bit, data_bit, stop_bit, frame_bit, push_bit}
 
 -- a data bit adds 2^k to a byte that has nothing there yet
 pub bit-adds : (acc k : ℕ) → acc < 2 ^ k → with_bit acc k mark ≡ acc + 2 ^ k
 bit-adds acc k h = rw one-mul at (or_shifted_r 1 k acc h) ∙ add_comm (2 ^ k) acc
-
--- what the code gives is what the bit gives: then its answer reads so too
-pub pushes : (d : Deframer) (bit : Bool) (x : Pushed) → deframed x ≡ push_bit d bit → Pushes d bit x.state x.heard
-pushes d bit x e = (e, ap (λ (p : Deframed). bytes_of p.heard) e)
 
 -- `push_bit` in each of the three positions
 pub push-idle : (d : Deframer) (bit : Bool) → d.in_frame ≡ false → push_bit d bit ≡ idle_bit d bit

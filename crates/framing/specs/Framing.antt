@@ -2,7 +2,7 @@
 use Rattle.std.specs.Prelude.{ℕ, ◌+◌, ◌<◌, ◌≤◌, min, ◌≡◌, Bool, true, not, ◌&&◌, List, [], ◌∷◌, ◌++◌, ltb, replicate}
 use Rattle.std.specs.Prelude.{if◌then◌else◌}
 use Rattle.framing.specs.declared.frame.Deframer.{Deframer}
-use Rattle.framing.specs.Frame.{mark, space, frame_of, Idle, one_more, bad_stops_of, Deframed, push_bit, heard, bad_stop_count, after}
+use Rattle.framing.specs.Frame.{mark, space, frame_of, Idle, one_more, bad_stops_of, Deframed, heard, bad_stop_count, after}
 
 -- ---- framed bytes are heard
 -- a byte that is sent, and the number of marks before its frame

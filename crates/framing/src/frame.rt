@@ -1,24 +1,32 @@
 // 8-N-1 asynchronous framing. `true` is mark, which is binary 1.
 ghost use Rattle.std.specs.Prelude.{◌≡◌, ◌<◌};
-ghost use Rattle.framing.specs.Frame.{frame_of, fresh_deframer, deframed, waiting, with_bit, one_more, idle_bit, data_bit, stop_bit, bad_stop, Pushes};
+ghost use Rattle.framing.specs.Frame.{frame_of, fresh_deframer, deframed, waiting, with_bit, bit_of, idle_bit, data_bit, stop_bit, bad_stop, Pushes};
 
 // One byte as ten bits: a space start bit, eight data bits lowest first, a mark stop bit.
 pub fn frame_byte(b: u8) -> [bool; 10]
     ensures { result ≡ frame_of b }
 {
-    let b0 = b % 2 == 1;
-    let b1 = b / 2 % 2 == 1;
-    let b2 = b / 4 % 2 == 1;
-    let b3 = b / 8 % 2 == 1;
-    let b4 = b / 16 % 2 == 1;
-    let b5 = b / 32 % 2 == 1;
-    let b6 = b / 64 % 2 == 1;
-    let b7 = b / 128 % 2 == 1;
-    [false, b0, b1, b2, b3, b4, b5, b6, b7, true]
+    [
+        false,
+        bit(b, 0),
+        bit(b, 1),
+        bit(b, 2),
+        bit(b, 3),
+        bit(b, 4),
+        bit(b, 5),
+        bit(b, 6),
+        bit(b, 7),
+        true,
+    ]
 }
 
-// Where the error count holds.
-const MOST_ERRORS: u32 = 4294967295;
+// Bit `k` of a byte, which has the weight 2^k.
+fn bit(b: u8, k: u8) -> bool
+    requires { k < 8 }
+    ensures { result ≡ bit_of b k }
+{
+    (b >> k) % 2 == 1
+}
 
 // Reassembles bytes from sliced bits. Waits for a start bit while idle, takes the next eight bits as data, then checks the stop bit.
 #[derive(Clone, Copy)]
@@ -29,7 +37,7 @@ pub struct Deframer {
     pub errors: u32,
 }
 
-// What one bit completed: a byte; nothing yet; or a frame whose stop bit is a space, which is no byte.
+// What one bit completed: a byte; nothing yet; or a frame whose stop bit is a space, which is no byte. Three cases, so no Option.
 #[derive(Clone, Copy)]
 pub enum Heard {
     Byte(u8),
@@ -65,19 +73,21 @@ impl Deframer {
     }
 
     // Takes one bit, in any state.
+    #[tactic(auto, unfolding(crate::specs::Frame::push_bit))]
     pub fn push_bit(self, mark: bool) -> Pushed
         ensures { Pushes self mark result.state result.heard }
     {
-        if self.in_frame {
-            if self.bit_count < 8 {
-                return self.data_bit(mark);
-            }
-            return self.stop_bit(mark);
+        if !self.in_frame {
+            self.idle_bit(mark)
+        } else if self.bit_count < 8 {
+            self.data_bit(mark)
+        } else {
+            self.stop_bit(mark)
         }
-        self.idle_bit(mark)
     }
 
     // A space while idle is a start bit.
+    #[tactic(auto, unfolding(crate::specs::Frame::idle_bit))]
     fn idle_bit(mut self, mark: bool) -> Pushed
         ensures { deframed result ≡ idle_bit self mark }
     {
@@ -91,6 +101,7 @@ impl Deframer {
     }
 
     // One of the eight data bits, lowest first.
+    #[tactic(auto, unfolding(crate::specs::Frame::data_bit))]
     fn data_bit(mut self, mark: bool) -> Pushed
         requires { self.bit_count < 8 }
         ensures { deframed result ≡ data_bit self mark }
@@ -101,6 +112,7 @@ impl Deframer {
     }
 
     // The bit in stop position: a mark gives the byte.
+    #[tactic(auto, unfolding(crate::specs::Frame::stop_bit))]
     fn stop_bit(mut self, mark: bool) -> Pushed
         ensures { deframed result ≡ stop_bit self mark }
     {
@@ -114,12 +126,13 @@ impl Deframer {
         self.bad_stop()
     }
 
-    // A space in stop position: counted, and no start bit.
+    // A space in stop position: counted, up to the largest count, and no start bit.
+    #[tactic(auto, unfolding(crate::specs::Frame::bad_stop))]
     fn bad_stop(mut self) -> Pushed
         ensures { deframed result ≡ bad_stop self }
     {
         self.in_frame = false;
-        self.errors = one_more(self.errors);
+        self.errors = self.errors.saturating_add(1);
         Pushed {
             state: self,
             heard: Heard::BadStop,
@@ -143,17 +156,6 @@ fn with_bit(acc: u8, k: u8, mark: bool) -> u8
     ensures { result ≡ with_bit acc k mark }
 {
     if mark { acc | (1u8 << k) } else { acc }
-}
-
-// One error more, held at the largest count.
-fn one_more(errors: u32) -> u32
-    ensures { result ≡ one_more errors }
-{
-    if errors < MOST_ERRORS {
-        errors + 1
-    } else {
-        MOST_ERRORS
-    }
 }
 
 // The step through a lent reference, as the Rust has it: thin, over the step by value.

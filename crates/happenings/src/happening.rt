@@ -13,22 +13,17 @@ pub enum Happening {
 }
 
 // What a code stands for: 0 to 255 a byte, 256 a bad stop, 257 a loss, 258 up, any other down.
+#[tactic(auto, unfolding(crate::specs::Happening::happening_of))]
 pub fn happening_of(code: u16) -> Happening
     ensures { result ≡ happening_of code }
 {
-    if code < 256 {
-        return Happening::Byte(code as u8);
+    match code {
+        0..=255 => Happening::Byte(code as u8),
+        256 => Happening::BadStop,
+        257 => Happening::Lost,
+        258 => Happening::Up,
+        _ => Happening::Down,
     }
-    if code == 256 {
-        return Happening::BadStop;
-    }
-    if code == 257 {
-        return Happening::Lost;
-    }
-    if code == 258 {
-        return Happening::Up;
-    }
-    Happening::Down
 }
 
 fn one_byte(h: Happening) -> usize
@@ -36,10 +31,7 @@ fn one_byte(h: Happening) -> usize
 {
     match h {
         Happening::Byte(_) => 1,
-        Happening::BadStop => 0,
-        Happening::Lost => 0,
-        Happening::Up => 0,
-        Happening::Down => 0,
+        _ => 0,
     }
 }
 
@@ -47,11 +39,8 @@ fn one_bad_stop(h: Happening) -> usize
     ensures { result ≡ bad_stop_of h }
 {
     match h {
-        Happening::Byte(_) => 0,
         Happening::BadStop => 1,
-        Happening::Lost => 0,
-        Happening::Up => 0,
-        Happening::Down => 0,
+        _ => 0,
     }
 }
 
@@ -68,12 +57,10 @@ pub fn tally_of(codes: &[u16]) -> Tally
 {
     let mut bytes = 0;
     let mut bad_stops = 0;
-    let mut i = 0;
-    while i < codes.len() {
-        let h = happening_of(codes[i]);
+    for &code in codes {
+        let h = happening_of(code);
         bytes += one_byte(h);
         bad_stops += one_bad_stop(h);
-        i += 1;
     }
     Tally { bytes, bad_stops }
 }

@@ -1,8 +1,6 @@
 -- "Uppercase hexadecimal, two digits a byte": what characters say, and the characters that say a byte. Assumes nothing.
-use Rattle.std.specs.Prelude.{ℕ, suc, ◌+◌, ◌-◌, ◌*◌, ◌/◌, ◌%◌, ◌<◌, ◌≡◌, Bool, true, false, ◌&&◌, List, [], ◌∷◌, ltb, leb, length, get_or, take}
+use Rattle.std.specs.Prelude.{ℕ, suc, ◌+◌, ◌-◌, ◌*◌, ◌/◌, ◌%◌, ◌<◌, ◌≡◌, Bool, true, false, ◌&&◌, List, [], ◌∷◌, ltb, leb, length, get_or, take, Option, Some, None}
 use Rattle.std.specs.Prelude.{if◌then◌else◌}
-use Rattle.hexadecimal.specs.declared.Digits.{Digits}
-use Rattle.hexadecimal.specs.declared.Digits.TheVariants.{AllDigits, WrongAt}
 
 -- the value of a character, 0-9 (48 to 57) and A-F (65 to 70), and 16 of any other
 unfoldable pub hex : ℕ → ℕ
@@ -14,24 +12,24 @@ all_hex [] = true
 all_hex (c ∷ l) = ltb (hex c) 16 && all_hex l
 
 -- the same place, with one character more in front
-abbrev pub further : Digits → Digits
-further AllDigits = AllDigits
-further (WrongAt p) = WrongAt (suc p)
+abbrev pub further : Option ℕ → Option ℕ
+further None = None
+further (Some p) = Some (suc p)
 
 -- "the digit test shall end at the first wrong digit and answer its place, counted from 0, or none"
-unfoldable pub first_wrong : List ℕ → Digits
-first_wrong [] = AllDigits
-first_wrong (c ∷ l) = if ltb (hex c) 16 then further (first_wrong l) else WrongAt 0
+unfoldable pub first_wrong : List ℕ → Option ℕ
+first_wrong [] = None
+first_wrong (c ∷ l) = if ltb (hex c) 16 then further (first_wrong l) else Some 0
 
 -- whether the test answers "none"
-abbrev pub is_none : Digits → Bool
-is_none AllDigits = true
-is_none (WrongAt p) = false
+abbrev pub is_none : Option ℕ → Bool
+is_none None = true
+is_none (Some p) = false
 
 -- "All characters before that place are digits, the one there is not, and none means that all are."
-abbrev pub Says : List ℕ → Digits → Type 0
-Says l AllDigits = all_hex l ≡ true
-Says l (WrongAt p) = (p < length l) × (all_hex (take p l) ≡ true) × (hex (get_or l p 0) ≡ 16)
+abbrev pub Says : List ℕ → Option ℕ → Type 0
+Says l None = all_hex l ≡ true
+Says l (Some p) = (p < length l) × (all_hex (take p l) ≡ true) × (hex (get_or l p 0) ≡ 16)
 
 -- the bytes that characters say, two to a byte, the high digit first
 unfoldable pub unhex : List ℕ → List ℕ

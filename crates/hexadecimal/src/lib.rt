@@ -6,43 +6,28 @@ ghost use Rattle.std.specs.Prelude.{◌≡◌, true, ◌%◌, ◌≤◌, ◌<◌
 ghost use Rattle.hexadecimal.specs.Hex.{hex, all_hex, first_wrong, Says, unhex, total};
 
 // The value of a character, and 16 of one that is no digit.
+#[tactic(auto, unfolding(crate::specs::Hex::hex))]
 pub fn digit(c: u8) -> u8
     ensures { result ≡ hex c }
 {
-    if c < 48 {
-        return 16;
+    match c {
+        b'0'..=b'9' => c - b'0',
+        b'A'..=b'F' => c - b'A' + 10,
+        _ => 16,
     }
-    if c <= 57 {
-        return c - 48;
-    }
-    if c < 65 {
-        return 16;
-    }
-    if c <= 70 {
-        return c - 55;
-    }
-    16
-}
-
-// What the digit test finds: none that is wrong, or the place of the first that is, counted from 0.
-#[derive(Clone, Copy)]
-pub enum Digits {
-    AllDigits,
-    WrongAt(usize),
 }
 
 // The digit test. The one loop returns at the first wrong character, and reads none behind it.
-pub fn test_digits(s: &[u8]) -> Digits
+#[tactic(auto, unfolding(crate::specs::Hex::all_hex))]
+pub fn test_digits(s: &[u8]) -> Option<usize>
     ensures { (result ≡ first_wrong s.now) × Says s.now result }
 {
-    let mut i = 0;
-    while i < s.len() {
+    for i in 0..s.len() {
         if digit(s[i]) >= 16 {
-            return Digits::WrongAt(i);
+            return Some(i);
         }
-        i += 1;
     }
-    Digits::AllDigits
+    None
 }
 
 // Byte i of those that the characters say, and 0 where there is none.
@@ -63,11 +48,9 @@ pub fn sum(s: &[u8]) -> u32
     ensures { result ≡ total (unhex s.now) % 256 }
 {
     let n = s.len() / 2;
-    let mut t: u32 = 0;
-    let mut i: usize = 0;
-    while i < n {
+    let mut t = 0;
+    for i in 0..n {
         t = (t + byte(s, i)) % 256;
-        i += 1;
     }
     t
 }

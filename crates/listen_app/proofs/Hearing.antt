@@ -16,9 +16,7 @@ use Rattle.wav.specs.declared.wav.Wav.{Wav}
 use Rattle.wav.specs.declared.wav.Step.{Step}
 use Rattle.wav.specs.declared.wav.Out.{Out}
 use Rattle.wav.specs.declared.wav.Out.TheVariants as out
-use Rattle.wav.specs.declared.wav.End.{End}
 use Rattle.listen_app.specs.BlockReader.{block_length, Gathered, BlockReaderSound, with_sample, reader_out, reader_byte, is_quiet}
-use Rattle.listen_app.specs.BlockReaderRep.{gathered}
 use Rattle.listen_app.specs.Host.{PlainHost, heard_block}
 use Rattle.listen_app.specs.HostRep.{host_of, Hosts}
 use Rattle.listen_app.specs.Listener.{Listener, listener, heard_sample, heard_out, heard_byte, heard_bytes, ended, view, acted_by, acted}

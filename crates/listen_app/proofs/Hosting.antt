@@ -1,4 +1,5 @@
 -- What a write makes of a host. Assumes nothing.
+use Rattle.board.specs.declared.board.Board.{Board}
 use Prim.Native.Nat.{ℕ, zero, suc, ◌+◌, ◌-◌, ◌/◌, ◌%◌, ◌≤◌, ◌<◌, min}
 use mathlib.Core.Path.{◌≡◌, refl, sym, ap, ◌∙◌}
 use mathlib.Core.Logic.{◌⊎◌, inl, inr}
@@ -10,19 +11,18 @@ use lib.Dec.{eqb}
 use lib.ListN.{length, take, drop, length-drop, drop_of_length-le}
 use lib.Seq.{take_all, drop-drop, drop-length}
 use lib.Ieee.{Float}
-use Rattle.std.specs.Prelude.{if◌then◌else◌}
+use Rattle.std.specs.Prelude.{if◌then◌else◌, Ok, Err}
 use Rattle.tide.specs.DecoderRep.{most_count}
 use Rattle.tide.proofs.DecoderRepLaws.{min-by}
 use Rattle.refusal.specs.Refusals.{number_of}
 use Rattle.refusal.specs.declared.Refusal.{Refusal}
 use Rattle.board.specs.Plain as plain
-use Rattle.board.specs.BoardRep.{plain_of, summary_of, answer_of, BoardSound}
+use Rattle.board.specs.BoardRep.{plain_of, summary_of, answer_of}
 use Rattle.board.specs.BoardRep as board
-use Rattle.board.specs.declared.board.Written.{Written}
+use Rattle.refusal.specs.declared.Answered.{Answered}
 use Rattle.board.specs.declared.board.Summary.{Summary}
-use Rattle.board.specs.declared.board.Answer.TheVariants as answer
 use Rattle.listen_app.specs.Host.{PlainHost, renewed, with_lines, with_unheard, wrote, heard_piece, heard_eights, eights_in, heard_block}
-use Rattle.listen_app.specs.HostRep.{host_of, ended_in, Hosts, Writes}
+use Rattle.listen_app.specs.HostRep.{host_of, Hosts, Writes}
 use Rattle.listen_app.specs.declared.host.Host.{Host}
 use Rattle.listen_app.specs.declared.host.Attempt.{Attempt}
 
@@ -53,23 +53,23 @@ heard-is b xs x e = by (eqb (plain.number b xs) 0) refl e
     by true n q = (refl, (let s : x ≡ plain.summary b xs = cc in ap (λ (y : plain.Summary). y.lines) s), sym (eqb-true _ 0 n))
     by false n q = absurd (let z : ◌≡◌ {A = ℕ} 0 1 = cc in omega arith)
 
-module _ (h : Host) (xs : List Float) (w : Written) (k : board.Writes h.board xs w) where
+module _ (h : Host) (xs : List Float) (w : Answered Board Summary) (k : board.Writes h.board xs w) where
   -- refused
-  pub writes-refused : (r : Attempt) (why : Refusal) → w.answer ≡ answer.Refused why → host_of r.host ≡ with_unheard (host_of h) (length xs)
-      → r.host.board ≡ h.board → r.number ≡ number_of why → BoardSound h.board → Writes h xs r
+  pub writes-refused : (r : Attempt) (why : Refusal) → w.answer ≡ Err why → host_of r.host ≡ with_unheard (host_of h) (length xs)
+      → r.number ≡ number_of why → Writes h xs r
   unfolding wrote
-  writes-refused r why e q b n s =
+  writes-refused r why e q n =
       let a = refused-is (plain_of h.board) xs (number_of why) (ap answer_of (sym e) ∙ k.answer) in
-      record { host = record { same = rw a.0 q; sound = rw b s }; number = n ∙ a.1 }
+      record { host = record { same = rw a.0 q }; number = n ∙ a.1 }
 
   -- heard
-  pub writes-heard : (r : Attempt) (x : Summary) (n : ℕ) → w.answer ≡ answer.Heard x → n ≡ x.lines
-      → host_of r.host ≡ with_lines (host_of h) (plain_of w.state) n → r.host.board ≡ w.state → r.number ≡ 0 → Writes h xs r
+  pub writes-heard : (r : Attempt) (x : Summary) (n : ℕ) → w.answer ≡ Ok x → n ≡ x.lines
+      → host_of r.host ≡ with_lines (host_of h) (plain_of w.state) n → r.number ≡ 0 → Writes h xs r
   unfolding wrote
-  writes-heard r x n e m q b z =
+  writes-heard r x n e m q z =
       let a = heard-is (plain_of h.board) xs (summary_of x) (ap answer_of (sym e) ∙ k.answer) in
       record {
-        host = record { same = rw a.0 (q ∙ rw (k.state, m, a.1) refl); sound = rw b k.sound };
+        host = record { same = rw a.0 (q ∙ rw (k.state, m, a.1) refl) };
         number = z ∙ a.2;
       }
 
@@ -94,7 +94,7 @@ module _ (h : PlainHost) (xs : List Float) (n : ℕ) (e : n ≡ plain.number h.b
   block-whole k = rw (ne_eqb _ _ (λ q. k (e ∙ q)))
 
 pub hosts-as : {g h : PlainHost} {r : Host} → h ≡ g → Hosts g r → Hosts h r
-hosts-as e k = record { same = k.same ∙ sym e; sound = k.sound }
+hosts-as e k = record { same = k.same ∙ sym e }
 
 -- ---- eight by eight
 eights-count : (n : ℕ) → n / 8 + (n % 8 + 7) / 8 ≡ eights_in n

@@ -1,7 +1,7 @@
 -- How the code's `Host` holds what specs/Host.antt speaks of, and what each function does. Assumes nothing.
 use Rattle.std.specs.Prelude.{ℕ, ◌≡◌, List, Float}
 use Rattle.board.specs.Plain as plain
-use Rattle.board.specs.BoardRep.{plain_of, BoardSound}
+use Rattle.board.specs.BoardRep.{plain_of}
 use Rattle.listen_app.specs.Host.{PlainHost, wrote}
 use Rattle.listen_app.specs.declared.host.Host.{Host}
 use Rattle.listen_app.specs.declared.host.Attempt.{Attempt}
@@ -29,7 +29,6 @@ ended_in (plain.heard x) = x.lines
 -- a host that has come to this state
 pub record Hosts (want : PlainHost) (r : Host) : Type 0 where
   pub same : host_of r ≡ want
-  pub sound : BoardSound r.board
 
 -- one write, and the number that refused it, or 0
 pub record Writes (h : Host) (xs : List Float) (r : Attempt) : Type 0 where

@@ -1,10 +1,7 @@
 -- A session: a host hears what standard input gives, to its end. Assumes nothing.
-use Rattle.std.specs.Prelude.{ℕ, ◌≡◌, Bool, true, false, List}
+use Rattle.std.specs.Prelude.{ℕ, ◌≡◌, Bool, true, false, List, Result, Ok, Err}
 use Rattle.std.specs.Prelude.{if◌then◌else◌}
-use Rattle.board.specs.BoardRep.{BoardSound}
 use Rattle.wav.specs.Wav.{finish_of}
-use Rattle.wav.specs.declared.wav.End.{End}
-use Rattle.wav.specs.declared.wav.End.TheVariants as end
 use Rattle.wav.specs.declared.wav.Fault.{Fault}
 use Rattle.wav.specs.declared.wav.Fault.TheVariants as fault
 use Rattle.listen_app.specs.BlockReader.{BlockReaderSound}
@@ -18,7 +15,6 @@ use Rattle.listen_app.specs.declared.session.Outcome.TheVariants as outcome
 
 -- a state that the first one and later calls gave
 pub record SessionSound (s : Session) : Type 0 where
-  pub board : BoardSound s.host.board
   pub reader : BlockReaderSound s.block s.reader.n
 
 -- what listens in a session
@@ -54,10 +50,10 @@ is_cut fault.Ragged = false
 is_cut fault.HeaderCut = false
 
 -- a recording cut short has its reading, and a bad header none
-abbrev pub end_of : End → Outcome
-end_of end.Whole = outcome.Whole
-end_of (end.Bad f) = if is_cut f then outcome.Cut f else outcome.NoReading f
+abbrev pub end_of : Result Unit Fault → Outcome
+end_of (Ok tt) = outcome.Whole
+end_of (Err f) = if is_cut f then outcome.Cut f else outcome.NoReading f
 
 -- a failed write or read comes first, and then there is no reading
-unfoldable pub outcome_of : Bool → Bool → End → Outcome
+unfoldable pub outcome_of : Bool → Bool → Result Unit Fault → Outcome
 outcome_of told failed e = if told then (if failed then outcome.Unread else end_of e) else outcome.Unwritten

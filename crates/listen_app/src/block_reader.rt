@@ -78,20 +78,19 @@ impl Filling {
         requires { BlockReaderSound block.old self.n }
         ensures { Fills (λ v w. reader_out out (filled v self block.old) w) result block.new }
     {
-        let n = self.n;
         match out {
             Out::Going => Filling {
-                n,
                 progress: Progress::None,
+                ..self
             },
             Out::Start(rate) => Filling {
-                n,
                 progress: Progress::Start(rate),
+                ..self
             },
             Out::Sample(x) => self.with_sample(x, block),
             Out::Bad(fault) => Filling {
-                n,
                 progress: Progress::Bad(fault),
+                ..self
             },
         }
     }
@@ -100,13 +99,7 @@ impl Filling {
 fn is_quiet(f: Filling) -> bool
     ensures { result ≡ is_quiet f.progress }
 {
-    let progress = f.progress;
-    match progress {
-        Progress::None => true,
-        Progress::Start(_) => false,
-        Progress::Block => false,
-        Progress::Bad(_) => false,
-    }
+    matches!(f.progress, Progress::None)
 }
 
 // Bytes from this place on, up to the first progress.
@@ -127,8 +120,10 @@ pub fn hear(reader: BlockReader, block: &mut [f32; BLOCK], input: &[u8], from: u
         f = f.after(out, block);
         i += 1;
     }
-    let n = f.n;
-    let progress = f.progress;
-    let e = BlockReader { wav, n, progress };
-    Heard { reader: e, at: i }
+    let reader = BlockReader {
+        wav,
+        n: f.n,
+        progress: f.progress,
+    };
+    Heard { reader, at: i }
 }

@@ -3,26 +3,7 @@ use crate::words::Unclear;
 use wav::Fault;
 
 pub fn of_words(why: Unclear) {
-    match why {
-        Unclear::Count => {
-            io::write_all(
-                2,
-                b"listen: the words are STATION ROLE, RATE where the input is raw, and s16 where it is 16-bit\n",
-            );
-        }
-        Unclear::Station => {
-            io::write_all(2, b"listen: STATION is a number from 1 to 65535\n");
-        }
-        Unclear::Role => {
-            io::write_all(2, b"listen: ROLE is originate or answer\n");
-        }
-        Unclear::Rate => {
-            io::write_all(2, b"listen: RATE is a number from 8000 to 48000\n");
-        }
-        Unclear::Format => {
-            io::write_all(2, b"listen: the word behind RATE is s16\n");
-        }
-    }
+    io::write_all(2, why.line());
 }
 
 // Standard input and output.
@@ -37,53 +18,24 @@ pub fn of_output() {
 // Why a recording is not read, or not to its end.
 pub fn of_recording(fault: Fault) {
     io::write_all(2, b"listen: ");
-    match fault {
-        Fault::Riff => {
-            io::write_all(2, b"no WAV recording: it does not begin with RIFF\n");
-        }
-        Fault::Wave => {
-            io::write_all(2, b"no WAV recording: RIFF, but not WAVE\n");
-        }
-        Fault::HeaderCut => {
-            io::write_all(2, b"the recording ends in its header\n");
-        }
-        Fault::FrameCut => {
-            io::write_all(2, b"the recording ends within a frame\n");
-        }
-        Fault::DataCut => {
-            io::write_all(2, b"the recording has fewer frames than its header says\n");
-        }
-        _ => of_header(fault),
-    }
+    io::write_all(2, reason(fault));
 }
 
-// What is wrong with its format or its size.
-fn of_header(fault: Fault) {
-    io::write_all(2, b"bad header: ");
+fn reason(fault: Fault) -> &'static [u8] {
     match fault {
-        Fault::FormatSize => {
-            io::write_all(2, b"the format chunk is too short\n");
-        }
+        Fault::Riff => b"no WAV recording: it does not begin with RIFF\n",
+        Fault::Wave => b"no WAV recording: RIFF, but not WAVE\n",
+        Fault::HeaderCut => b"the recording ends in its header\n",
+        Fault::FrameCut => b"the recording ends within a frame\n",
+        Fault::DataCut => b"the recording has fewer frames than its header says\n",
+        Fault::FormatSize => b"bad header: the format chunk is too short\n",
         Fault::Encoding => {
-            io::write_all(
-                2,
-                b"the encoding is not PCM of 8, 16, 24 or 32 bits, floats of 32 or 64, mu-law or A-law\n",
-            );
+            b"bad header: the encoding is not PCM of 8, 16, 24 or 32 bits, floats of 32 or 64, mu-law or A-law\n"
         }
-        Fault::Channels => {
-            io::write_all(2, b"no channel\n");
-        }
-        Fault::Rate => {
-            io::write_all(2, b"the rate is not from 8000 to 48000\n");
-        }
-        Fault::Align => {
-            io::write_all(2, b"a frame is not one sample for each channel\n");
-        }
-        Fault::NoFormat => {
-            io::write_all(2, b"data before the format\n");
-        }
-        _ => {
-            io::write_all(2, b"the data are no whole number of frames\n");
-        }
+        Fault::Channels => b"bad header: no channel\n",
+        Fault::Rate => b"bad header: the rate is not from 8000 to 48000\n",
+        Fault::Align => b"bad header: a frame is not one sample for each channel\n",
+        Fault::NoFormat => b"bad header: data before the format\n",
+        Fault::Ragged => b"bad header: the data are no whole number of frames\n",
     }
 }

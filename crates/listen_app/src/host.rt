@@ -1,19 +1,17 @@
 // A host keeps a board hearing, block by block, and tells each line that is judged.
 ghost use Rattle.std.specs.Prelude.{◌≡◌, ◌+◌, ◌≤◌, min, length, take};
 ghost use Rattle.tide.specs.DecoderRep.{most_count};
-ghost use Rattle.board.specs.BoardRep.{plain_of, BoardSound};
+ghost use Rattle.board.specs.BoardRep.{plain_of};
 ghost use Rattle.listen_app.specs.Host.{fresh_host, renewed, with_lines, with_unheard, heard_piece, heard_eights, eights_in, heard_block};
 ghost use Rattle.listen_app.specs.HostRep.{host_of, most_lines, Hosts, Writes};
 
 use bell103::Role;
-use board::{Answer, Board};
-use console::{one_more, print_answer, print_reading};
-use tide::Shown;
+use board::Board;
+use console::{print_answer, print_field, print_reading};
+use tide::Reading;
 
 // The most lines that a write can end.
 const MOST_LINES: usize = 103;
-
-const MOST_COUNT: u64 = 18446744073709551615;
 
 #[derive(Clone, Copy)]
 pub struct Host {
@@ -29,90 +27,46 @@ pub struct Host {
     told: bool,
 }
 
-// A host after a write, and the number that refused the write, or 0.
+// A host after a write, and the number that refused the write, or 0. Numbers, as the board's definition says which (31 and 4 are told apart).
 #[derive(Clone, Copy)]
 pub struct Attempt {
     host: Host,
     number: u32,
 }
 
-// The number of lines, and whether they were told.
+// The number of lines, and whether they were told. No Option: lines that are not told are counted too.
 #[derive(Clone, Copy)]
 struct Told {
     lines: u64,
     told: bool,
 }
 
-// A count with so many more.
-fn more_by(n: u64, by: usize) -> u64
-    ensures { result ≡ min (n + by) most_count }
-{
-    let k = by as u64;
-    if k <= MOST_COUNT - n {
-        return n + k;
-    }
-    MOST_COUNT
-}
-
 // A line's number and answer; behind one that is shown, the reading.
-fn tell_line(told: bool, line: u64, answer: u8, station: u16, shown: Shown) -> bool {
-    if !told {
-        return false;
-    }
-    if !print_answer(line, answer) {
-        return false;
-    }
-    if answer != 0 {
-        return true;
-    }
-    print_reading(station, shown)
+fn tell_line(told: bool, line: u64, answer: u8, station: u16, shown: Option<Reading>) -> bool {
+    told && print_answer(line, answer) && (answer != 0 || print_reading(station, shown))
 }
 
 // Each line of a write.
-fn tell_lines(lines: u64, told: bool, verdicts: &[u8], station: u16, shown: Shown) -> Told
+fn tell_lines(lines: u64, told: bool, verdicts: &[u8], station: u16, shown: Option<Reading>) -> Told
     ensures { result.lines ≡ min (lines + length verdicts.now) most_count }
 {
     let mut k = lines;
     let mut ok = told;
-    let mut i = 0;
-    while i < verdicts.len() {
-        k = one_more(k);
-        ok = tell_line(ok, k, verdicts[i], station, shown);
-        i += 1;
+    for &answer in verdicts {
+        k = k.saturating_add(1);
+        ok = tell_line(ok, k, answer, station, shown);
     }
     Told { lines: k, told: ok }
 }
 
 // That a fresh board begins, and that it shows nothing yet.
-fn tell_fresh(told: bool, station: u16, shown: Shown) -> bool {
-    if !told {
-        return false;
-    }
-    if !io::write_all(1, b"! 31\n") {
-        return false;
-    }
-    print_reading(station, shown)
+fn tell_fresh(told: bool, station: u16, shown: Option<Reading>) -> bool {
+    told && io::write_all(1, b"! 31\n") && print_reading(station, shown)
 }
 
 // How many samples were not heard, where there are any.
 fn tell_unheard(n: u64) -> bool {
-    if n == 0 {
-        return true;
-    }
-    if !io::write_all(1, b"! 4 ") {
-        return false;
-    }
-    if !io::print_decimal(1, n) {
-        return false;
-    }
-    io::write_all(1, b"\n")
-}
-
-// Room for the answers of all lines that a write can end.
-fn no_verdicts() -> [u8; MOST_LINES]
-    ensures { most_lines ≤ length result }
-{
-    [0u8; MOST_LINES]
+    n == 0 || io::write_all(1, b"! 4") && print_field(n) && io::write_all(1, b"\n")
 }
 
 // Eight places on, or the end.
@@ -120,10 +74,7 @@ fn eight_on(at: usize, end: usize) -> usize
     requires { at ≤ end }
     ensures { result ≡ min (at + 8) end }
 {
-    if end - at < 8 {
-        return end;
-    }
-    at + 8
+    at + (end - at).min(8)
 }
 
 impl Host {
@@ -147,26 +98,20 @@ impl Host {
     pub fn with_rate(self, rate: u32) -> Host
         ensures { Hosts (fresh_host rate self.station self.role) result }
     {
-        let role = self.role;
-        Host::new(rate, self.station, role)
+        Host::new(rate, self.station, self.role)
     }
 
     // With a fresh board, which shows nothing until it has heard a good line.
     fn start_again(self) -> Host
         ensures { Hosts (renewed (host_of self)) result }
     {
-        let role = self.role;
-        let made = Board::new(self.rate, self.station, role);
+        let made = Board::new(self.rate, self.station, self.role);
         let board = made.state;
         let told = tell_fresh(self.told, self.station, board.reading());
         Host {
-            rate: self.rate,
-            station: self.station,
-            role,
             board,
-            lines: self.lines,
-            unheard: self.unheard,
             told,
+            ..self
         }
     }
 
@@ -174,7 +119,6 @@ impl Host {
     fn heard(self, board: Board, verdicts: &[u8]) -> Host
         ensures { (host_of result ≡ with_lines (host_of self) (plain_of board) (length verdicts.now)) × (result.board ≡ board) }
     {
-        let role = self.role;
         let t = tell_lines(
             self.lines,
             self.told,
@@ -183,13 +127,10 @@ impl Host {
             board.reading(),
         );
         Host {
-            rate: self.rate,
-            station: self.station,
-            role,
             board,
             lines: t.lines,
-            unheard: self.unheard,
             told: t.told,
+            ..self
         }
     }
 
@@ -197,26 +138,25 @@ impl Host {
     fn missed(mut self, n: usize) -> Host
         ensures { (host_of result ≡ with_unheard (host_of self) n) × (result.board ≡ self.board) }
     {
-        self.unheard = more_by(self.unheard, n);
+        self.unheard = self.unheard.saturating_add(n as u64);
         self
     }
 
     // One write.
     fn write(self, samples: &[f32]) -> Attempt
-        requires { BoardSound self.board }
         ensures { Writes self samples.now result }
     {
         let board = self.board;
-        let mut verdicts = no_verdicts();
+        let mut verdicts = [0u8; MOST_LINES];
         let w = board.write_into(samples, &mut verdicts);
         let next = w.state;
         let answer = w.answer;
         match answer {
-            Answer::Refused(why) => Attempt {
+            Err(why) => Attempt {
                 host: self.missed(samples.len()),
-                number: why.number(),
+                number: u32::from(why),
             },
-            Answer::Heard(x) => {
+            Ok(x) => {
                 let n = x.lines as usize;
                 Attempt {
                     host: self.heard(next, &verdicts[..n]),
@@ -239,7 +179,6 @@ impl Host {
     }
 
     fn write_piece(self, samples: &[f32]) -> Host
-        requires { BoardSound self.board }
         ensures { Hosts (heard_piece (host_of self) samples.now) result }
     {
         let a = self.write(samples);
@@ -248,7 +187,6 @@ impl Host {
 
     // The eight samples in front, or what there is.
     fn write_front(self, samples: &[f32]) -> Host
-        requires { BoardSound self.board }
         ensures { Hosts (heard_piece (host_of self) (take 8 samples.now)) result }
     {
         if samples.len() < 8 {
@@ -259,7 +197,6 @@ impl Host {
 
     // Eight by eight.
     fn write_eights(self, samples: &[f32]) -> Host
-        requires { BoardSound self.board }
         ensures { Hosts (heard_eights (eights_in (length samples.now)) (host_of self) samples.now) result }
     {
         let mut host = self;
@@ -275,7 +212,6 @@ impl Host {
 
     // The next block: whole, or in eights where a sample of it is refused.
     pub fn write_block(self, samples: &[f32]) -> Host
-        requires { BoardSound self.board }
         ensures { Hosts (heard_block (host_of self) samples.now) result }
     {
         let a = self.write(samples);
@@ -294,10 +230,6 @@ impl Host {
 
     // How many samples were not heard, where there are any; then the reading.
     pub fn tell_reading(self) -> bool {
-        let board = self.board;
-        if !tell_unheard(self.unheard) {
-            return false;
-        }
-        print_reading(self.station, board.reading())
+        tell_unheard(self.unheard) && print_reading(self.station, self.board.reading())
     }
 }

@@ -19,21 +19,24 @@ use words::Request;
 
 // Hears the input, which is standard input, as the words of the command say.
 pub fn run<E: Env, R: Read>(env: &E, input: &mut R) {
-    let request = words::read(env);
-    match request {
-        Request::Recording { station, role } => {
+    match words::read(env) {
+        Ok(Request::Recording { station, role }) => {
             session::close(session::hear_recording(input, station, role))
         }
-        Request::Floats {
-            station,
-            role,
-            rate,
-        } => session::close(session::hear_floats(input, station, role, rate)),
-        Request::Pcm {
-            station,
-            role,
-            rate,
-        } => session::close(session::hear_pcm(input, station, role, rate)),
-        Request::Unclear(why) => complain::of_words(why),
+        Ok(
+            Request::Floats {
+                station,
+                role,
+                rate,
+            },
+        ) => session::close(session::hear_floats(input, station, role, rate)),
+        Ok(
+            Request::Pcm {
+                station,
+                role,
+                rate,
+            },
+        ) => session::close(session::hear_pcm(input, station, role, rate)),
+        Err(why) => complain::of_words(why),
     }
 }

@@ -1,7 +1,5 @@
 // A host hears a recording, from standard input.
-ghost use Rattle.std.specs.Prelude.{◌≡◌, length, []};
-ghost use Rattle.board.specs.BoardRep.{BoardSound};
-ghost use Rattle.listen_app.specs.BlockReader.{block_length};
+ghost use Rattle.std.specs.Prelude.{◌≡◌, [], IfOk, IfSome};
 ghost use Rattle.listen_app.specs.BlockReaderRep.{gathered};
 ghost use Rattle.listen_app.specs.Host.{fresh_host};
 ghost use Rattle.listen_app.specs.HostRep.{host_of, Hosts};
@@ -12,8 +10,8 @@ use crate::block_reader::{BLOCK, BlockReader, Progress, hear};
 use crate::complain;
 use crate::host::Host;
 use bell103::Role;
-use std::io::Read;
-use wav::{End, Fault, Wav};
+use std::io::{Error, Read};
+use wav::{Fault, Wav};
 
 // The host, the reader of the recording's bytes, and the block that its samples fill.
 #[derive(Clone, Copy)]
@@ -25,12 +23,9 @@ struct Session {
 
 // Acts on the reader's progress.
 fn act_on(host: Host, reader: BlockReader, block: &[f32]) -> Host
-    requires { BoardSound host.board }
-    ensures board_sound { BoardSound result.board }
-    ensures result_value { view (gathered reader block.now) (host_of result) ≡ acted (host_of host) (gathered reader block.now) }
+    ensures { view (gathered reader block.now) (host_of result) ≡ acted (host_of host) (gathered reader block.now) }
 {
-    let progress = reader.progress;
-    match progress {
+    match reader.progress {
         Progress::None => host,
         Progress::Bad(_) => host,
         Progress::Start(rate) => host.with_rate(rate),
@@ -60,69 +55,57 @@ fn hear_part(s: Session, input: &[u8]) -> Session
     }
 }
 
-// The session after a read, whether there is reason to read on, and whether the read failed.
+// The session after all reads, and whether the last one failed. No Result: what was heard before is told also where a read failed.
 #[derive(Clone, Copy)]
 struct Turn {
     session: Session,
-    more: bool,
     failed: bool,
 }
 
-// One read of the input.
-fn read_part<R: Read>(input: &mut R, s: Session) -> Turn
+// One read of the input: the session behind it, or none where the input is at its end.
+fn read_part<R: Read>(input: &mut R, s: Session) -> Result<Option<Session>, Error>
     requires { SessionSound s }
-    ensures { HeardSome (listening s) result.session }
+    ensures { IfOk result (λ read. IfSome read (HeardSome (listening s))) }
 {
     let mut part = io::buffer();
-    let Ok(n) = input.read(&mut part) else {
-        return Turn {
-            session: s,
-            more: false,
-            failed: true,
-        };
-    };
+    let n = input.read(&mut part)?;
     if n == 0 {
-        return Turn {
-            session: s,
-            more: false,
-            failed: false,
-        };
+        return Ok(None);
     }
-    let next = hear_part(s, &part[..n]);
-    let more = goes_on(next.reader, next.host.is_told());
-    Turn {
-        session: next,
-        more,
-        failed: false,
-    }
+    Ok(Some(hear_part(s, &part[..n])))
 }
 
 // Whether there is reason to read on: the recording is good so far, and what is heard can be told.
 fn goes_on(reader: BlockReader, told: bool) -> bool {
-    let progress = reader.progress;
-    match progress {
-        Progress::Bad(_) => false,
-        _ => told,
-    }
+    told && !matches!(reader.progress, Progress::Bad(_))
 }
 
-// All of the input. A proved loop has to end, and nothing says that the input does: the loop counts its turns down, from a number
-// that no run uses up.
+// All of the input. A proved loop has to end, and nothing says that the input does: the loop counts its turns, up to a number that no run
+// reaches.
 fn read_all<R: Read>(input: &mut R, s: Session) -> Turn
     requires { SessionSound s }
     ensures { HeardSome (listening s) result.session }
 {
-    let mut r = Turn {
-        session: s,
-        more: true,
-        failed: false,
-    };
-    let mut turns = u64::MAX;
-    while turns > 0 && r.more {
-        r = read_part(input, r.session);
-        turns -= 1;
+    let mut session = s;
+    for _ in 0..u64::MAX {
+        let Ok(read) = read_part(input, session) else {
+            return Turn {
+                session,
+                failed: true,
+            };
+        };
+        let Some(next) = read else {
+            break;
+        };
+        session = next;
+        if !goes_on(session.reader, session.host.is_told()) {
+            break;
+        }
     }
-    r
+    Turn {
+        session,
+        failed: false,
+    }
 }
 
 // The samples that fill no block.
@@ -130,23 +113,14 @@ fn hear_last(s: Session) -> Host
     requires { SessionSound s }
     ensures { Hosts (ended (listening s)) result }
 {
-    let host = s.host;
-    let block = s.block;
-    let n = s.reader.n;
-    host.write_block(&block[..n])
-}
-
-fn no_samples() -> [f32; BLOCK]
-    ensures { length result ≡ block_length }
-{
-    [0.0; BLOCK]
+    s.host.write_block(&s.block[..s.reader.n])
 }
 
 // The host that heard all that there is, how the recording ended, and whether a read failed.
 #[derive(Clone, Copy)]
 pub struct Closed {
     host: Host,
-    end: End,
+    end: Result<(), Fault>,
     failed: bool,
 }
 
@@ -157,7 +131,7 @@ fn hear_all<R: Read>(input: &mut R, wav: Wav, rate: u32, station: u16, role: Rol
     let first = Session {
         host: Host::new(rate, station, role),
         reader: BlockReader::new(wav),
-        block: no_samples(),
+        block: [0.0; BLOCK],
     };
     let r = read_all(input, first);
     let s = r.session;
@@ -207,37 +181,20 @@ pub enum Outcome {
 fn is_cut(fault: Fault) -> bool
     ensures { result ≡ is_cut fault }
 {
-    match fault {
-        Fault::FrameCut => true,
-        Fault::DataCut => true,
-        Fault::Riff => false,
-        Fault::Wave => false,
-        Fault::FormatSize => false,
-        Fault::Encoding => false,
-        Fault::Channels => false,
-        Fault::Rate => false,
-        Fault::Align => false,
-        Fault::NoFormat => false,
-        Fault::Ragged => false,
-        Fault::HeaderCut => false,
-    }
+    matches!(fault, Fault::FrameCut | Fault::DataCut)
 }
 
-fn end_of(end: End) -> Outcome
+fn end_of(end: Result<(), Fault>) -> Outcome
     ensures { result ≡ end_of end }
 {
     match end {
-        End::Whole => Outcome::Whole,
-        End::Bad(fault) => {
-            if is_cut(fault) {
-                return Outcome::Cut(fault);
-            }
-            Outcome::NoReading(fault)
-        }
+        Ok(()) => Outcome::Whole,
+        Err(fault) if is_cut(fault) => Outcome::Cut(fault),
+        Err(fault) => Outcome::NoReading(fault),
     }
 }
 
-fn outcome_of(told: bool, failed: bool, end: End) -> Outcome
+fn outcome_of(told: bool, failed: bool, end: Result<(), Fault>) -> Outcome
     ensures { result ≡ outcome_of told failed end }
 {
     if told {
@@ -252,9 +209,7 @@ fn outcome_of(told: bool, failed: bool, end: End) -> Outcome
 // The last lines: what went wrong, on standard error, and the reading.
 pub fn close(c: Closed) {
     let host = c.host;
-    let end = c.end;
-    let o = outcome_of(host.is_told(), c.failed, end);
-    match o {
+    match outcome_of(host.is_told(), c.failed, c.end) {
         Outcome::Unwritten => complain::of_output(),
         Outcome::Unread => complain::of_input(),
         Outcome::NoReading(fault) => complain::of_recording(fault),

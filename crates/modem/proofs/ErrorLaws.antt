@@ -8,15 +8,14 @@ use lib.ListN.{length}
 use lib.Ieee.{Float}
 use Rattle.refusal.specs.Refusals.{rate_refused}
 use Rattle.framing.specs.Frame.{most_errors}
-use Rattle.framing.specs.Framing.{held}
 use Rattle.demodulation.specs.Demod.{Demodulator, fresh_demodulator, hearing}
 use Rattle.demodulation.proofs.DemodLaws.{hearing-completed, hearing-errors, hearing-errors-most}
 use Rattle.demodulation.proofs.FreshLaws.{fresh-deframer}
 use Rattle.happenings.specs.declared.happening.Happening.{Happening}
 use Rattle.modem.specs.Hear.{resampled}
-use Rattle.modem.specs.Listener.{Demod, heard_by, fresh_demod, admitted, Listens, heard_over, samples_in, bad_stops_by, bad_stops_over}
+use Rattle.modem.specs.Listener.{Demod, heard_by, fresh_demod, admitted, heard_over, samples_in, bad_stops_by, bad_stops_over}
 use Rattle.modem.specs.ListenerRep.{demod_of, FewErrors, ListenerSound}
-use Rattle.modem.specs.Rx.{Receiver, receiver, Made, new_of, fresh_receiver, refusal_of, accepted_by, accepted_write, unless_refused, written, read_of, event_of, errors_of, Call, write, read, events, after_call, after_calls, taken_unless, taken_at, taken_in, CountsAll}
+use Rattle.modem.specs.Rx.{Receiver, Made, new_of, fresh_receiver, refusal_of, accepted_by, accepted_write, unless_refused, written, read_of, event_of, errors_of, Call, write, read, events, after_call, after_calls, taken_unless, taken_at, taken_in, CountsAll}
 use Rattle.modem.specs.RxRep.{receiver_of, RxSound}
 use Rattle.modem.proofs.RxLaws.{bads-none, bads-first, over-completed, fresh-listens, fresh-idle}
 use Rattle.modem.proofs.RxCalls.{admitted-ok, new_is}

@@ -14,11 +14,18 @@ use Rattle.modem.specs.declared.queue.Events.{Events}
 use Rattle.modem.specs.Queue.{newest}
 
 -- `count` is the number of those that wait
-pub queued_length : (q : Bytes) → BytesSound q → length (queued q) ≡ q.count
-queued_length q s = length-take-le q.count q.held (omega (arith, s.places, s.room))
+pub queued_length : (q : Bytes) → length (queued q) ≡ q.count
+queued_length q = length-take-le q.count q.held (omega (arith, q.places, q.room))
 
-pub logged-length : (q : Events) → EventsSound q → length (logged q) ≡ q.count
-logged-length q s = length-take-le q.count q.held (omega (arith, s.places, s.room))
+pub logged-length : (q : Events) → length (logged q) ≡ q.count
+logged-length q = length-take-le q.count q.held (omega (arith, q.places, q.room))
+
+-- a queue of the code's is sound
+pub bytes-sound-of : (q : Bytes) → BytesSound q
+bytes-sound-of q = record { places = q.places; room = q.room }
+
+pub events-sound-of : (q : Events) → EventsSound q
+events-sound-of q = record { places = q.places; room = q.room }
 
 -- what was dropped before does not count
 newest-newest : (n : ℕ) (a b : List Bool) → newest n (newest n a ++ b) ≡ newest n (a ++ b)

@@ -1,4 +1,5 @@
 -- A receiver's call, put together from what its parts ensure. Assumes nothing.
+use Rattle.std.specs.Prelude.{Result, Ok, Err, is_ok}
 use Prim.Native.Nat.{ℕ, zero, suc, ◌+◌, ◌≤◌}
 use mathlib.Core.Path.{◌≡◌, refl, ap, ◌∙◌}
 use mathlib.Core.Bool.{Bool, true, false, not, ◌&&◌, ◌||◌, true≢false}
@@ -8,18 +9,16 @@ use native.Mathlib.Omega.{arith}
 use borrow.Author.Tests.{ltb-false}
 use lib.ListN.{length}
 use lib.Ieee.{Float}
-use Rattle.refusal.specs.Refusals.{Reply, given, refused, number_of, acceptance_of, is_accepted, reply_of, first, rate_refused, rates_refused}
+use Rattle.refusal.specs.Refusals.{Reply, given, refused, number_of, reply_in, reply_of, first, rate_refused, rates_refused}
 use Rattle.refusal.proofs.RefusalLaws.{accepted-none}
-use Rattle.resampling.specs.Resample.{State, Made, made, new_of, fresh, state}
+use Rattle.resampling.specs.Resample.{State, Made, made, new_of, fresh}
 use Rattle.modem.specs.Rx.{Receiver, refusal_of, accepted_write, wrote, written, unless_refused}
 use Rattle.modem.specs.Write.{refused_by}
 use Rattle.numeric.specs.Convert.{all_in_range}
 use Rattle.happenings.specs.Happening.{bytes_in}
 use Rattle.modem.specs.Listener.{Demod, heard_by, Listens}
 use Rattle.modem.proofs.RxLaws.{heard-most}
-use Rattle.refusal.specs.declared.Acceptance.{Acceptance}
 use Rattle.refusal.specs.declared.Refusal.{Refusal}
-use Rattle.refusal.specs.declared.Acceptance.TheVariants as acceptance
 
 -- ---- a fresh resampler down to 8,000
 one-rate : (rate : ℕ) → rate_refused rate ≡ false → rates_refused rate 8000 ≡ false
@@ -67,18 +66,18 @@ bytes_fit d xs waiting l w h = omega (arith, heard-most d xs l)
 
 -- what an answer says of the number that it stands for
 module _ (r : Receiver) (xs : List Float) where
-  pub went-through : acceptance_of acceptance.Accepted ≡ reply_of (refusal_of r xs) → accepted_write r xs ≡ written r xs
+  pub went-through : reply_in (Ok tt) ≡ reply_of (refusal_of r xs) → accepted_write r xs ≡ written r xs
   unfolding written
-  went-through e = rw (accepted-none acceptance.Accepted (refusal_of r xs) e refl)
+  went-through e = rw (accepted-none (Ok tt) (refusal_of r xs) e refl)
 
-  pub stopped : (why : Refusal) → acceptance_of (acceptance.Refused why) ≡ reply_of (refusal_of r xs) → wrote (refused (number_of why)) r ≡ written r xs
+  pub stopped : (why : Refusal) → reply_in (Err why) ≡ reply_of (refusal_of r xs) → wrote (refused (number_of why)) r ≡ written r xs
   unfolding written
   stopped why = by (refusal_of r xs)
     where
-      by : (k : ℕ) → acceptance_of (acceptance.Refused why) ≡ reply_of k → wrote (refused (number_of why)) r ≡ unless_refused k r (accepted_write r xs)
+      by : (k : ℕ) → reply_in (Err why) ≡ reply_of k → wrote (refused (number_of why)) r ≡ unless_refused k r (accepted_write r xs)
       by zero e = let z : ◌≡◌ {A = ℕ} 0 1 = cc in absurd (omega arith)
       by (suc k) e = let n : number_of why ≡ suc k = cc in ap (λ (x : ℕ). wrote (refused x) r) n
 
-pub not_none : (a : Acceptance) (k : ℕ) → acceptance_of a ≡ reply_of k → is_accepted a ≡ false → k ≡ 0 → ⊥
-not_none acceptance.Accepted k e f z = true≢false f
-not_none (acceptance.Refused why) k e f z = let a = rw z at e in let y : ◌≡◌ {A = ℕ} 0 1 = cc in omega arith
+pub not_none : (a : Result Unit Refusal) (k : ℕ) → reply_in a ≡ reply_of k → is_ok a ≡ false → k ≡ 0 → ⊥
+not_none (Ok tt) k e f z = true≢false f
+not_none (Err why) k e f z = let a = rw z at e in let y : ◌≡◌ {A = ℕ} 0 1 = cc in omega arith

@@ -1,6 +1,9 @@
 -- A call's samples through the resampler. Assumes nothing.
+use Rattle.refusal.specs.declared.Refusal.{Refusal}
+use Rattle.std.specs.Prelude.{Result}
+use Rattle.std.specs.Result.{result_unwrap_or}
 use Prim.Native.Nat.{ℕ, ◌+◌, ◌-◌, ◌≤◌}
-use mathlib.Core.Path.{◌≡◌, refl, sym, ap, subst, ◌∙◌}
+use mathlib.Core.Path.{◌≡◌, ap, subst, ◌∙◌}
 use mathlib.Core.Bool.{true}
 use mathlib.Core.List.{List, ◌++◌, append_assoc}
 use native.Mathlib.Omega.{arith}
@@ -8,27 +11,27 @@ use borrow.Author.Tests.{le-ltb}
 use lib.ListN.{length, take, drop, length-append, length-drop}
 use lib.Seq.{take-append_seam, take_all, length-take-le}
 use lib.Ieee.{Float}
-use Rattle.refusal.specs.Refusals.{given, count_of, count_in}
+use Rattle.refusal.specs.Refusals.{given, reply_in}
 use Rattle.refusal.proofs.RefusalLaws.{count-given}
 use Rattle.resampling.specs.Flow.{ran}
 use Rattle.resampling.specs.Resample.{State, equal_rates, outcome, Outcome, len_of, too_many, max_output_len, ran_into, laid}
 use Rattle.resampling.proofs.ResampleLaws.{equal-rates, ran-few, output-few}
-use Rattle.resampling.specs.ResampleRep.{state_of, Sound}
+use Rattle.resampling.specs.ResampleRep.{state_of}
 use Rattle.modem.specs.Hear.{resampled, Resamples}
 use Rattle.modem.specs.Listener.{heard_by}
-use Rattle.modem.specs.ListenerRep.{demod_of, Fitting, Takes}
+use Rattle.modem.specs.ListenerRep.{demod_of, FewErrors, Takes}
 use Rattle.modem.specs.declared.listener.Listener.{Listener}
-use Rattle.refusal.specs.declared.Counted.{Counted}
-use Rattle.happenings.specs.Codes.{most_steps}
+use Rattle.happenings.specs.Codes.{most_steps, heard_in}
 use Rattle.demodulation.specs.Demod as defined
 use Rattle.demodulation.specs.Listening.{HearsInto}
 use Rattle.demodulation.specs.declared.demod.Demodulator.{Demodulator}
-use Rattle.demodulation.specs.declared.hearing.HeardAll.{HeardAll}
+use Rattle.refusal.specs.declared.Counting.{Counting}
 use Rattle.resampling.specs.declared.resample.Resampler.{Resampler}
+use Rattle.modem.proofs.RxCalls.{listener-sound-of}
 use Rattle.modem.proofs.ErrorLaws.{errors-on}
 
 -- the room that a call of n samples asks for
-pub room-is : (s : State) (n : ℕ) (c : Counted) → n ≤ 2048 → count_of c ≡ len_of s n → count_in c ≡ max_output_len s.src s.dst n
+pub room-is : (s : State) (n : ℕ) (c : Result ℕ Refusal) → n ≤ 2048 → reply_in c ≡ len_of s n → result_unwrap_or c 0 ≡ max_output_len s.src s.dst n
 unfolding len_of too_many
 room-is s n c h e = count-given c (max_output_len s.src s.dst n) (e ∙ rw (le-ltb _ _ h))
 
@@ -49,11 +52,11 @@ module _ (s : State) (xs o : List Float) (l : length o ≡ max_output_len s.src 
   within = rw l (ran-few s xs)
 
 -- the samples stand at the front of an output of 1,026 places whose first `need` were lent
-pub resamples : (b r : Resampler) (xs out o' : List Float) (need n : ℕ) → Sound r → need ≡ max_output_len b.src_rate b.dst_rate (length xs)
+pub resamples : (b r : Resampler) (xs out o' : List Float) (need n : ℕ) → need ≡ max_output_len b.src_rate b.dst_rate (length xs)
     → length out ≡ 1026 → need ≤ 1026 → outcome (given n) (state_of r) o' ≡ ran_into (state_of b) xs (take need out)
     → Resamples b xs r n (o' ++ drop need out)
 unfolding state_of
-resamples b r xs out o' need n snd is l k e =
+resamples b r xs out o' need n is l k e =
     let t : length (take need out) ≡ need = length-take-le need out (omega arith) in
     let R = resampled (state_of b) xs in
     let f = e ∙ gives (state_of b) xs (take need out) (t ∙ is) in
@@ -67,7 +70,6 @@ resamples b r xs out o' need n snd is l k e =
       count = c;
       state = st;
       rate = ap (λ (x : State). x.dst) st;
-      sound = snd;
       places = length-append o' (drop need out) ∙ simp (length-drop, ol, l) (sum need k);
     }
   where
@@ -89,7 +91,7 @@ unfolding state_of resampled
 steps-fit b xs l e h = omega (arith, ran-few (state_of b) xs, room-few (state_of b) (length xs) h l e)
 
 -- all of so few are heard
-pub all-heard : (d : Demodulator) (xs ys : List Float) (codes : List ℕ) (r : HeardAll) (codes' : List ℕ) → xs ≡ ys → length ys ≤ most_steps
+pub all-heard : (d : Demodulator) (xs ys : List Float) (codes : List ℕ) (r : Counting Demodulator) (codes' : List ℕ) → xs ≡ ys → length ys ≤ most_steps
     → HearsInto d (take most_steps xs) codes r codes' → HearsInto d ys codes r codes'
 all-heard d xs ys codes r codes' e l h = subst (λ (zs : List Float). HearsInto d zs codes r codes') (ap (take most_steps) e ∙ take_all most_steps ys l) h
 
@@ -99,28 +101,30 @@ unfolding resampled state_of
 plain r xs e = equal-rates (state_of r) xs e
 
 -- so a listener at equal rates has taken them once its demodulator heard them
-abbrev pub plainly : Listener → ℕ → Demodulator → Listener
-plainly l n d = record { resampler = l.resampler; demod = d; accepted = l.accepted + n }
-
-pub plain-takes : (l : Listener) (xs : List Float) (before codes : List ℕ) (h : HeardAll) → Fitting l xs before → equal_rates (state_of l.resampler) ≡ true
-    → HearsInto l.demod xs before h codes → Takes l xs before (plainly l (length xs) h.state) h.count codes
+pub plain-takes : (l r : Listener) (xs : List Float) (before codes : List ℕ) (h : Counting Demodulator)
+    → r.resampler ≡ l.resampler → r.demod ≡ h.state → r.accepted ≡ l.accepted + length xs → equal_rates (state_of l.resampler) ≡ true
+    → HearsInto l.demod xs before h codes → Takes l xs before r h.count codes
 unfolding demod_of heard_by state_of
-plain-takes l xs before codes h fit same i =
+plain-takes l r xs before codes h rs ds ac same i =
     let e = plain l.resampler xs same in
     record {
-      demod = rw (e, i.after);
+      demod = rw (rs, ds, e, i.after);
       heard = rw e i.heard;
       count = rw e i.count;
       few = i.few;
       rest = i.rest;
       places = i.places;
-      accepted = refl;
-      sound =
-          record {
-            resampler = fit.sound.resampler;
-            to_8000 = fit.sound.to_8000;
-            demod = i.sound;
-            count = fit.end;
-            errors = errors-on _ _ _ _ _ fit.sound.errors (ap (λ (x : defined.Demodulator). x.deframer) i.after) (omega arith);
-          };
+      accepted = ac;
     }
+
+-- what happened is what the definition hears
+pub plain-heard : (l : Listener) (xs : List Float) (before codes : List ℕ) (h : Counting Demodulator) → equal_rates (state_of l.resampler) ≡ true
+    → HearsInto l.demod xs before h codes → heard_in h.count codes ≡ (heard_by (demod_of l) xs).happenings
+unfolding demod_of heard_by state_of
+plain-heard l xs before codes h same i = rw (plain l.resampler xs same) i.heard
+
+-- and its error count is still few
+pub plain-few : (l : Listener) (xs : List Float) (before codes : List ℕ) (h : Counting Demodulator) → HearsInto l.demod xs before h codes
+    → FewErrors h.state.core.deframer (l.accepted + length xs)
+plain-few l xs before codes h i =
+    errors-on _ _ _ _ _ (listener-sound-of l).errors (ap (λ (x : defined.Demodulator). x.deframer) i.after) (omega arith)

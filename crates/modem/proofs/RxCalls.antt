@@ -12,10 +12,12 @@ use Rattle.refusal.specs.Refusals.{dsp_rate, given, refused, first, reply_of, ra
 use Rattle.refusal.proofs.RefusalLaws.{first-yes, first-no}
 use Rattle.numeric.specs.Convert.{all_in_range}
 use Rattle.modem.specs.Queue.{most_bytes}
-use Rattle.modem.proofs.QueueLaws.{queued_length}
+use Rattle.modem.proofs.QueueLaws.{queued_length, bytes-sound-of, events-sound-of}
 use Rattle.resampling.specs.ResampleRep.{state_of}
+use Rattle.resampling.proofs.ResampleLaws.{sound-of}
+use Rattle.demodulation.proofs.DemodLaws.{demod-sound-of}
 use Rattle.modem.specs.Listener.{fresh_demod, admitted, samples_refused, Listens}
-use Rattle.modem.specs.ListenerRep.{demod_of, ListenerSound}
+use Rattle.modem.specs.ListenerRep.{demod_of, FewErrors, ListenerSound}
 use Rattle.modem.specs.Rx.{receiver, fresh_receiver, made, new_of}
 use Rattle.modem.specs.Write.{refused_by}
 use Rattle.modem.specs.RxRep.{receiver_of, RxSound}
@@ -23,6 +25,14 @@ use Rattle.bell103.specs.declared.Role.{Role}
 use Rattle.demodulation.specs.declared.kind.Kind.TheVariants.{Bare}
 use Rattle.modem.specs.declared.listener.Listener.{Listener}
 use Rattle.modem.specs.declared.rx.Rx.{Rx}
+
+-- ---- a listener and a receiver of the code's are sound
+pub listener-sound-of : (l : Listener) → ListenerSound l
+unfolding FewErrors
+listener-sound-of l = record { resampler = sound-of l.resampler; to_8000 = l.to_8000; demod = demod-sound-of l.demod; count = l.most; errors = l.few }
+
+pub rx-sound-of : (r : Rx) → RxSound r
+rx-sound-of r = record { listener = listener-sound-of r.listener; bytes = bytes-sound-of r.out; events = events-sound-of r.events }
 
 -- ---- a sound state
 pub listener-listens : (l : Listener) → ListenerSound l → Listens (demod_of l)
@@ -35,7 +45,7 @@ sound-listens r s = listener-listens r.listener s.listener
 
 pub sound-few : (r : Rx) → RxSound r → length (receiver_of r).waiting ≤ most_bytes
 unfolding receiver_of
-sound-few r s = omega (arith, queued_length r.out s.bytes, s.bytes.room)
+sound-few r s = omega (arith, queued_length r.out, s.bytes.room)
 
 pub sound-count : (r : Rx) → RxSound r → (receiver_of r).accepted ≤ 4294967296
 unfolding receiver_of

@@ -8,7 +8,6 @@ use Rattle.demodulation.specs.Pace.{Paced}
 use Rattle.demodulation.specs.Demod.{Demodulator, hearing, fresh_demodulator}
 use Rattle.demodulation.specs.Symbols.{symbol_ends}
 use Rattle.demodulation.proofs.SymbolLaws.{symbols-paced, ends-append, ends-none}
-use Rattle.modem.specs.Hear.{resampled}
 use Rattle.modem.specs.Listener.{Demod, heard_by, fresh_demod}
 use Rattle.modem.specs.Symbols.{steps_by, steps_over, ends_over}
 use Rattle.bell103.specs.declared.Role.{Role}

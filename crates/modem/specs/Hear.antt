@@ -2,7 +2,7 @@
 use Rattle.std.specs.Prelude.{ℕ, ◌≡◌, List, length, take, Float}
 use Rattle.resampling.specs.Flow.{Ran}
 use Rattle.resampling.specs.Resample.{State, state, max_output_len, ran_over}
-use Rattle.resampling.specs.ResampleRep.{state_of, Sound}
+use Rattle.resampling.specs.ResampleRep.{state_of}
 use Rattle.resampling.specs.declared.resample.Resampler.{Resampler}
 
 -- the samples at 8,000 Hz that a list of samples makes, with the room that `max_output_len` gives
@@ -15,5 +15,4 @@ pub record Resamples (before : Resampler) (xs : List Float) (r : Resampler) (n :
   pub count : n ≡ length (resampled (state_of before) xs).out
   pub state : state_of r ≡ state before.src_rate before.dst_rate (resampled (state_of before) xs).flow
   pub rate : r.dst_rate ≡ before.dst_rate
-  pub sound : Sound r
   pub places : length after ≡ 1026

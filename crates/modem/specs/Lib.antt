@@ -4,6 +4,7 @@ pub mod Hear
 pub mod Listener
 pub mod ListenerRep
 pub mod Symbols
+pub mod Places
 pub mod Queue
 pub mod Write
 pub mod Rx

@@ -1,6 +1,6 @@
 -- How the code's `Listener` holds what specs/Listener.antt speaks of, the invariant of its states, and what its calls do. Assumes nothing.
 use Rattle.std.specs.Prelude.{ℕ, ◌+◌, ◌*◌, ◌≤◌, ◌≡◌, List, length, drop, Float}
-use Rattle.refusal.specs.Refusals.{acceptance_of, first, reply_of, rate_refused}
+use Rattle.refusal.specs.Refusals.{reply_in, first, reply_of, rate_refused}
 use Rattle.framing.specs.Framing.{held}
 use Rattle.framing.specs.declared.frame.Deframer.{Deframer}
 use Rattle.happenings.specs.Codes.{most_codes, Codes, heard_in}
@@ -10,8 +10,7 @@ use Rattle.modem.specs.Listener as plain
 use Rattle.bell103.specs.declared.Role.{Role}
 use Rattle.demodulation.specs.declared.kind.Kind.{Kind}
 use Rattle.modem.specs.declared.listener.Listener.{Listener}
-use Rattle.modem.specs.declared.listener.Opened.{Opened}
-use Rattle.modem.specs.declared.listener.Took.{Took}
+use Rattle.refusal.specs.declared.Answered.{Answered}
 use Rattle.modem.specs.declared.listener.Listened.{Listened}
 
 -- what a `Listener` is in the definitions, beside the number of samples accepted
@@ -23,7 +22,7 @@ demod_of l = plain.demod (state_of l.resampler) (demodulator_of l.demod)
 unfoldable pub FewErrors : Deframer → ℕ → Type 0
 FewErrors d accepted = 10 * d.errors + held d ≤ 3 * accepted
 
--- a state that `new` or a later call gave
+-- what each value of the type keeps (proofs/RxCalls.antt, listener-sound-of)
 pub record ListenerSound (l : Listener) : Type 0 where
   pub resampler : Sound l.resampler
   pub to_8000 : l.resampler.dst_rate ≡ 8000
@@ -36,16 +35,14 @@ pub record ListenerSound (l : Listener) : Type 0 where
 pub record Fresh (kind : Kind) (rate : ℕ) (role : Role) (l : Listener) : Type 0 where
   pub demod : demod_of l ≡ plain.fresh_demod kind rate role
   pub accepted : l.accepted ≡ 0
-  pub sound : ListenerSound l
 
 -- `new`; refused 1 it gives the fresh one at 8,000
-pub record Opens (kind : Kind) (rate : ℕ) (role : Role) (r : Opened) : Type 0 where
-  pub answer : acceptance_of r.answer ≡ reply_of (first (rate_refused rate) 1 0)
+pub record Opens (kind : Kind) (rate : ℕ) (role : Role) (r : Answered Listener Unit) : Type 0 where
+  pub answer : reply_in r.answer ≡ reply_of (first (rate_refused rate) 1 0)
   pub fresh : Fresh kind (plain.admitted rate) role r.state
 
 -- samples that no check refuses, and room for what may happen
 pub record Fitting (l : Listener) (xs : List Float) (codes : List ℕ) : Type 0 where
-  pub sound : ListenerSound l
   pub few : length xs ≤ 1024
   pub end : l.accepted + length xs ≤ 4294967296
   pub places : Codes codes
@@ -59,7 +56,6 @@ pub record Takes (l : Listener) (xs : List Float) (before : List ℕ) (r : Liste
   pub rest : drop n codes ≡ drop n before
   pub places : Codes codes
   pub accepted : r.accepted ≡ l.accepted + length xs
-  pub sound : ListenerSound r
 
 -- nothing changed
 pub record Same (l : Listener) (before : List ℕ) (r : Listened) (codes : List ℕ) : Type 0 where
@@ -69,7 +65,6 @@ pub record Same (l : Listener) (before : List ℕ) (r : Listened) (codes : List 
 
 -- `hear`: 3, 4 or 31, and nothing changed; or the samples are accepted
 pub record Hears (l : Listener) (xs : List Float) (before : List ℕ) (r : Listened) (codes : List ℕ) : Type 0 where
-  pub answer : acceptance_of r.answer ≡ reply_of (plain.samples_refused xs l.accepted)
+  pub answer : reply_in r.answer ≡ reply_of (plain.samples_refused xs l.accepted)
   pub taken : plain.samples_refused xs l.accepted ≡ 0 → Takes l xs before r.state r.count codes
   pub same : (plain.samples_refused xs l.accepted ≡ 0 → ⊥) → Same l before r codes
-  pub sound : ListenerSound r.state

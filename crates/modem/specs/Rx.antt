@@ -1,7 +1,7 @@
 -- The receiver (rx.rs): what hears; two queues; and the number of samples accepted. Assumes nothing.
 use Rattle.std.specs.Prelude.{ℕ, zero, suc, ◌+◌, ◌<◌, ◌≡◌, Bool, List, [], ◌∷◌, ◌++◌, length, take, drop, Float}
 use Rattle.std.specs.Prelude.{if◌then◌else◌}
-use Rattle.refusal.specs.Refusals.{dsp_rate, Reply, given, refused, reply_of, rate_refused}
+use Rattle.refusal.specs.Refusals.{dsp_rate, Reply, given, refused, rate_refused}
 use Rattle.framing.specs.Frame.{most_errors}
 use Rattle.demodulation.specs.Demod.{reported}
 use Rattle.modem.specs.Write.{refused_by}

@@ -8,7 +8,7 @@ use Rattle.modem.specs.declared.rx.Rx.{Rx}
 unfoldable pub receiver_of : Rx → Receiver
 receiver_of r = receiver (demod_of r.listener) (queued r.out) (logged r.events) r.listener.accepted
 
--- a state that `new` or a later call gave
+-- what each value of the type keeps (proofs/RxCalls.antt, rx-sound-of)
 pub record RxSound (r : Rx) : Type 0 where
   pub listener : ListenerSound r.listener
   pub bytes : BytesSound r.out

@@ -15,8 +15,8 @@ mod rx;
 mod samples;
 mod write;
 
-pub use bell103::{Duration, Measure, Measured, Role, Summed, exact, exact_sum, tones};
-pub use demodulation::{Event, Kind};
+pub use bell103::{Duration, Measure, Role, exact, exact_sum, tones};
+pub use demodulation::{Carrier, Kind};
 pub use framing::frame::{Deframer, frame_byte};
 pub use listener::Listener;
 pub use modulation::{TableTx, Tx};

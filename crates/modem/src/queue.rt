@@ -1,25 +1,20 @@
 // The receiver's two queues, oldest first: bytes heard, and carrier events.
-ghost use Rattle.std.specs.Prelude.{◌≡◌, [], ◌∷◌, ◌++◌, ◌+◌, ◌≤◌, ◌<◌, min, length, take, drop};
-ghost use Rattle.happenings.specs.Happening.{byte_of, change_of, happenings_of};
-ghost use Rattle.modem.specs.Queue.{BytesSound, BytesWait, Kept, Moved, Drains};
-ghost use Rattle.modem.specs.Queue.{EventsSound, EventsWait, events_in, logged, logging, logging_all, event_of, Pops, Takable, TakesIn};
-ghost use Rattle.demodulation.specs.Demod.{events_of};
+ghost use Rattle.std.specs.Prelude.{◌≡◌, [], ◌∷◌, ◌++◌, ◌+◌, ◌≤◌, ◌<◌, length, take};
+ghost use Rattle.happenings.specs.Happening.{byte_of, change_of};
+ghost use Rattle.modem.specs.Places.{Kept, Moved, Logs, logging, logging_all, event_of};
 
-use demodulation::Event;
+use demodulation::Carrier;
 use happenings::{Happening, happening_of};
+use numeric::arrays::filled;
+use refusal::Counting;
 
 // Received bytes: the first `count` wait.
 #[derive(Clone, Copy)]
 pub struct Bytes {
     pub held: [u8; 512],
     pub count: usize,
-}
-
-// What draining left, and how many bytes it gave.
-#[derive(Clone, Copy)]
-pub struct Drained {
-    pub state: Bytes,
-    pub count: usize,
+    pub ghost places: { length held ≡ 512 },
+    pub ghost room: { count ≤ 512 },
 }
 
 // One more byte, behind the n that wait. The array is lent, so that a loop copies it once.
@@ -38,165 +33,129 @@ fn keep_heard(held: &mut [u8; 512], n: usize, h: Happening) -> usize
 {
     match h {
         Happening::Byte(b) => keep_at(held, n, b),
-        Happening::BadStop => n,
-        Happening::Lost => n,
-        Happening::Up => n,
-        Happening::Down => n,
+        _ => n,
     }
 }
 
-fn no_bytes() -> [u8; 512] {
-    [0u8; 512]
-}
-
-fn smaller(a: usize, b: usize) -> usize
-    ensures { result ≡ min a b }
-{
-    if a < b { a } else { b }
-}
-
-// The first n bytes to the front of the buffer.
-fn copy_out(held: &[u8; 512], n: usize, buf: &mut [u8])
-    requires { (n ≤ 512) × (length held.now ≡ 512) × (n ≤ length buf.old) }
-    ensures { buf.new ≡ take n held.now ++ drop n buf.old }
-{
-    let mut i = 0;
-    while i < n {
-        buf[i] = held[i];
-        i += 1;
-    }
-}
-
-// The m bytes from place k on, moved to the front.
-fn to_front(held: &mut [u8; 512], k: usize, m: usize)
-    requires { (k + m ≤ 512) × (length held.old ≡ 512) }
+// The m elements from place k on, moved to the front.
+fn to_front<T: Copy>(held: &mut [T], k: usize, m: usize)
+    requires { k + m ≤ length held.old }
     ensures { Moved k m held.old held.new }
 {
-    let mut i = 0;
-    while i < m {
+    // An index: a part of the array is moved within it.
+    for i in 0..m {
         held[i] = held[i + k];
-        i += 1;
     }
 }
 
 impl Bytes {
+    ghost use Rattle.modem.specs.Queue.{BytesWait, Drains};
+
     pub fn new() -> Bytes
         ensures { BytesWait result [] }
     {
-        let held = no_bytes();
+        let held = filled(0);
         Bytes { held, count: 0 }
     }
 
     // Gives as many bytes as wait and have room in buf, oldest first.
-    pub fn drain(self, buf: &mut [u8]) -> Drained
-        requires { BytesSound self }
+    pub fn drain(self, buf: &mut [u8]) -> Counting<Bytes>
         ensures { Drains self buf.old result buf.new }
     {
         let mut held = self.held;
-        let waiting = self.count;
-        let count = smaller(waiting, buf.len());
-        copy_out(&held, count, buf);
-        let left = waiting - count;
+        let count = self.count.min(buf.len());
+        buf[..count].copy_from_slice(&held[..count]);
+        let left = self.count - count;
         to_front(&mut held, count, left);
-        let state = Bytes { held, count: left };
-        Drained { state, count }
+        Counting {
+            state: Bytes { held, count: left },
+            count,
+        }
     }
 }
 
-// Carrier events: the first `count` wait; true is up.
+// Carrier events: the first `count` wait; true is up. A type of its own beside `Bytes`, which are given many at a time and never dropped: the two have
+// only the move to the front in common.
 #[derive(Clone, Copy)]
 pub struct Events {
     pub held: [bool; 64],
     pub count: usize,
+    pub ghost places: { length held ≡ 64 },
+    pub ghost room: { count ≤ 64 },
 }
 
 // The oldest event, and the queue after it.
 #[derive(Clone, Copy)]
 pub struct NextEvent {
     pub state: Events,
-    pub event: Event,
-}
-
-fn no_events() -> [bool; 64] {
-    [false; 64]
-}
-
-// Each event one place to the front; the first is dropped.
-fn drop_oldest(held: &mut [bool; 64])
-    requires { length held.old ≡ 64 }
-    ensures { Moved 1 63 held.old held.new }
-{
-    let mut i = 0;
-    while i < 63 {
-        held[i] = held[i + 1];
-        i += 1;
-    }
+    pub event: Option<Carrier>,
 }
 
 // One more event. Where 64 wait, the oldest is dropped. Answers how many wait.
 fn log_at(held: &mut [bool; 64], n: usize, up: bool) -> usize
-    requires { EventsSound (events_in held.old n) }
-    ensures { EventsWait (events_in held.new result) (logging (logged (events_in held.old n)) up) }
+    requires { (n ≤ 64) × (length held.old ≡ 64) }
+    ensures { Logs (logging (take n held.old) up) result held.new }
 {
     if n < 64 {
         held[n] = up;
         return n + 1;
     }
-    drop_oldest(held);
+    to_front(held, 1, 63);
     held[63] = up;
     64
 }
 
 // The change of a happening, if it is one. The array is lent, as that of the bytes is.
+#[tactic(auto, unfolding(crate::specs::Places::logging_all))]
 fn log_into(held: &mut [bool; 64], n: usize, h: Happening) -> usize
-    requires { EventsSound (events_in held.old n) }
-    ensures { EventsWait (events_in held.new result) (logging_all (logged (events_in held.old n)) (change_of h)) }
+    requires { (n ≤ 64) × (length held.old ≡ 64) }
+    ensures { Logs (logging_all (take n held.old) (change_of h)) result held.new }
 {
     match h {
-        Happening::Byte(_) => n,
-        Happening::BadStop => n,
-        Happening::Lost => n,
         Happening::Up => log_at(held, n, true),
         Happening::Down => log_at(held, n, false),
+        _ => n,
     }
 }
 
 // The carrier went up, or down.
-pub fn event_of(up: bool) -> Event
+pub fn event_of(up: bool) -> Option<Carrier>
     ensures { result ≡ event_of up }
 {
     if up {
-        Event::CarrierUp
+        Some(Carrier::Up)
     } else {
-        Event::CarrierDown
+        Some(Carrier::Down)
     }
 }
 
 impl Events {
+    ghost use Rattle.modem.specs.Queue.{EventsWait, Pops};
+
     pub fn new() -> Events
         ensures { EventsWait result [] }
     {
-        let held = no_events();
+        let held = filled(false);
         Events { held, count: 0 }
     }
 
     // Takes the oldest event off, if there is one.
     pub fn next(self) -> NextEvent
-        requires { EventsSound self }
         ensures { Pops self result }
     {
-        let h = self.held;
-        let n = self.count;
-        if n == 0 {
+        if self.count == 0 {
             return NextEvent {
                 state: self,
-                event: Event::Nothing,
+                event: None,
             };
         }
-        let event = event_of(h[0]);
-        let mut held = h;
-        drop_oldest(&mut held);
-        let state = Events { held, count: n - 1 };
+        let mut held = self.held;
+        let event = event_of(held[0]);
+        to_front(&mut held, 1, 63);
+        let state = Events {
+            held,
+            count: self.count - 1,
+        };
         NextEvent { state, event }
     }
 }
@@ -208,28 +167,30 @@ pub struct Queues {
     pub events: Events,
 }
 
-// The bytes and the changes of what was heard, by its codes, behind those that wait.
-pub fn take_in(q: Queues, codes: &[u16]) -> Queues
-    requires { Takable q (happenings_of codes.now) }
-    ensures { TakesIn q (happenings_of codes.now) result }
-{
-    let bytes0 = q.bytes;
-    let events0 = q.events;
-    let mut held = bytes0.held;
-    let mut logged = events0.held;
-    let mut count = bytes0.count;
-    let mut events_count = events0.count;
-    let mut i = 0;
-    while i < codes.len() {
-        let h = happening_of(codes[i]);
-        count = keep_heard(&mut held, count, h);
-        events_count = log_into(&mut logged, events_count, h);
-        i += 1;
+impl Queues {
+    ghost use Rattle.happenings.specs.Happening.{happenings_of};
+    ghost use Rattle.modem.specs.Queue.{Takable, TakesIn};
+
+    // The bytes and the changes of what was heard, by its codes, behind those that wait.
+    pub fn take_in(self, codes: &[u16]) -> Queues
+        requires { Takable self (happenings_of codes.now) }
+        ensures { TakesIn self (happenings_of codes.now) result }
+    {
+        let mut held = self.bytes.held;
+        let mut count = self.bytes.count;
+        let mut logged = self.events.held;
+        let mut events_count = self.events.count;
+        for &code in codes {
+            let h = happening_of(code);
+            count = keep_heard(&mut held, count, h);
+            events_count = log_into(&mut logged, events_count, h);
+        }
+        Queues {
+            bytes: Bytes { held, count },
+            events: Events {
+                held: logged,
+                count: events_count,
+            },
+        }
     }
-    let bytes = Bytes { held, count };
-    let events = Events {
-        held: logged,
-        count: events_count,
-    };
-    Queues { bytes, events }
 }

@@ -9,14 +9,7 @@ use numeric::convert::{in_range, widen};
 pub fn all_in_range(samples: &[f32]) -> bool
     ensures { result ≡ all_in_range samples.now }
 {
-    let mut i = 0;
-    while i < samples.len() {
-        if !in_range(samples[i]) {
-            return false;
-        }
-        i += 1;
-    }
-    true
+    samples.iter().all(|&x| in_range(x))
 }
 
 // The samples, each as an f64, to the front of out.
@@ -24,9 +17,8 @@ pub(crate) fn widen_into(samples: &[f32], out: &mut [f64])
     requires { length samples.now ≤ length out.old }
     ensures { Widened samples.now out.old out.new }
 {
-    let mut i = 0;
-    while i < samples.len() {
+    // An index: two slices are walked side by side, and zip reads no plainer.
+    for i in 0..samples.len() {
         out[i] = widen(samples[i]);
-        i += 1;
     }
 }

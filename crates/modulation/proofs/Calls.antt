@@ -1,4 +1,6 @@
 -- What the sender's calls answer, from what their parts ensure. Assumes nothing.
+use Rattle.refusal.specs.declared.Refusal.{Refusal}
+use Rattle.std.specs.Prelude.{Result, Ok, Err, is_ok}
 use Prim.Native.Nat.{ℕ, zero, suc, ◌+◌, ◌*◌, ◌≤◌, ◌<◌}
 use mathlib.Core.Path.{◌≡◌, refl, sym, ap, ◌∙◌}
 use mathlib.Core.Bool.{Bool, true, false, ◌||◌, true≢false}
@@ -8,14 +10,12 @@ use lib.Dec.{ltb}
 use borrow.Author.Tests.{lt-ltb, le-ltb, ltb-false}
 use lib.ListN.{length}
 use lib.Ieee.{Float}
-use Rattle.refusal.specs.Refusals.{Reply, given, first, reply_of, acceptance_of, is_accepted, rate_refused, rates_refused, highest_rate}
+use Rattle.refusal.specs.Refusals.{Reply, given, first, reply_of, reply_in, rate_refused, rates_refused, highest_rate}
 use Rattle.modulation.specs.Bits.{queued}
 use Rattle.resampling.specs.Resample as resample
 use Rattle.resampling.proofs.Place.{start-reached}
-use Rattle.refusal.specs.declared.Acceptance.{Acceptance}
-use Rattle.refusal.specs.declared.Acceptance.TheVariants as acceptance
-use Rattle.modulation.specs.Tx.{sender, reading, read_refused, unless_refused, filled_for, read_of, bits_wait}
-use Rattle.modulation.specs.TxRep.{Fed, modulator_of, sender_of, FillsWhole}
+use Rattle.modulation.specs.Tx.{sender, reading, read_refused, read_of, bits_wait}
+use Rattle.modulation.specs.TxRep.{Fed, sender_of, FillsWhole}
 use Rattle.modulation.specs.declared.tx.Tx.{Tx}
 
 -- ---- a fresh resampler up from 8,000
@@ -59,23 +59,23 @@ pub never-refused : (served n : ℕ) → n ≤ 1024 → served + n ≤ 429496729
 unfolding read_refused first
 never-refused served n h k = rw (le-ltb 1024 n h, le-ltb 4294967296 (served + n) k)
 
-pub read-filled : (t t' : Tx) (o o' : List Float) (n : ℕ) (a : Acceptance) → read_refused t.served (length o) ≡ 0
-    → FillsWhole t (length o) o' a n t' → reading (acceptance_of a) n (sender_of t') o' ≡ read_of (sender_of t) o
+pub read-filled : (t t' : Tx) (o o' : List Float) (n : ℕ) (a : Result Unit Refusal) → read_refused t.served (length o) ≡ 0
+    → FillsWhole t (length o) o' a n t' → reading (reply_in a) n (sender_of t') o' ≡ read_of (sender_of t) o
 unfolding read_of sender_of
 read-filled t t' o o' n a z f =
     rw (f.accepted, z) (λ i. reading (given tt) (f.is i).passes (sender (f.is i).after (f.served i)) (f.is i).samples)
 
 -- an answer that is not accepted stands for a number above 0
-pub some-refused : (a : Acceptance) (k : ℕ) → acceptance_of a ≡ reply_of k → is_accepted a ≡ false → (j : ℕ) × (k ≡ suc j)
+pub some-refused : (a : Result Unit Refusal) (k : ℕ) → reply_in a ≡ reply_of k → is_ok a ≡ false → (j : ℕ) × (k ≡ suc j)
 some-refused a zero e n = absurd (true≢false (sym (yes a e) ∙ n))
   where
-    yes : (a : Acceptance) → acceptance_of a ≡ reply_of 0 → is_accepted a ≡ true
-    yes acceptance.Accepted e = refl
-    yes (acceptance.Refused r) e = let z : ◌≡◌ {A = ℕ} 0 1 = cc in absurd (omega arith)
+    yes : (a : Result Unit Refusal) → reply_in a ≡ reply_of 0 → is_ok a ≡ true
+    yes (Ok tt) e = refl
+    yes (Err r) e = let z : ◌≡◌ {A = ℕ} 0 1 = cc in absurd (omega arith)
 some-refused a (suc k) e n = (k, refl)
 
-pub read-refused : (t : Tx) (o : List Float) (a : Acceptance) → acceptance_of a ≡ reply_of (read_refused t.served (length o)) → is_accepted a ≡ false
-    → reading (acceptance_of a) 0 (sender_of t) o ≡ read_of (sender_of t) o
+pub read-refused : (t : Tx) (o : List Float) (a : Result Unit Refusal) → reply_in a ≡ reply_of (read_refused t.served (length o)) → is_ok a ≡ false
+    → reading (reply_in a) 0 (sender_of t) o ≡ read_of (sender_of t) o
 unfolding read_of sender_of
 read-refused t o a e n = let s = some-refused a (read_refused t.served (length o)) e n in rw (e, s.1)
 

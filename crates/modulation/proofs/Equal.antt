@@ -13,12 +13,11 @@ use Rattle.resampling.specs.Resample.{State, state, ran_over, max_output_len}
 use Rattle.resampling.proofs.ResampleLaws.{equal-rates}
 use Rattle.resampling.specs.Flow.{ran}
 use Rattle.resampling.specs.ResampleRep.{state_of}
-use Rattle.refusal.specs.declared.Acceptance.TheVariants.{Accepted}
 use Rattle.bell103.specs.declared.TonePair.{TonePair}
 use Rattle.modulation.specs.Tone.{Keyer, generated}
 use Rattle.modulation.specs.Modulator.{Modulator, modulator, scaled, made_for, batch, passed, handed, pass}
 use Rattle.modulation.specs.ModulatorRep.{keyer_of, pending_in, HandsOver, EqualInto}
-use Rattle.modulation.specs.TxRep.{modulator_of, TxSound, FillsWhole, after, Parts, FillsPlaces}
+use Rattle.modulation.specs.TxRep.{modulator_of, Fills, after, Parts, FillsPlaces}
 use Rattle.modulation.specs.declared.modulate.Wave.{Wave}
 use Rattle.modulation.specs.declared.tx.Tx.{Tx}
 use Rattle.modulation.proofs.Tones.{generated-length}
@@ -47,30 +46,30 @@ module _ (t : TonePair) (k : Keyer) (s : State) (a : Float) (r : ℕ) (src : s.s
       (modulator 8000 t (generated (need-equal r i) t k).after (state s.src s.dst (made-equal i).flow) (drop r (map (scaled a) (made-equal i).out)) a)
 
 -- a whole slice: what was pending is handed over, then one pass
-pub equal-full : (t : Tx) (l written from : ℕ) (out pending rest tail pending' : List Float) (w' : Wave) → TxSound t → t.rate ≡ 8000
-    → Going t l out pending t.wave t.resampler t.upto written from 1 → written < l → t.served + l ≤ 4294967296 → length rest ≡ l - written
+pub equal-full : (t : Tx) (l written from : ℕ) (out pending rest tail pending' : List Float) (w' : Wave) → t.rate ≡ 8000
+    → Going t l out pending t.wave t.resampler t.upto written from 1 → written < l → length rest ≡ l - written
     → length (take written out ++ (rest ++ tail)) ≡ l → EqualInto t.bits t.tones t.amplitude t.wave (l - written) rest pending' w'
-    → FillsWhole t l (take written out ++ (rest ++ tail)) Accepted 2 (after t w' t.resampler pending' 0 1 (t.served + l))
+    → Fills t l (take written out ++ (rest ++ tail)) pending' w' t.resampler 0 1 2
 unfolding state_of
-equal-full t l written from out pending rest tail pending' w' u e8 g lt few lr lo p =
+equal-full t l written from out pending rest tail pending' w' e8 g lt lr lo p =
     let r = l - written in
     let k = keyer_of t.bits t.wave in
     let q = state_of t.resampler in
     let a = t.amplitude in
     let T = t.tones in
     let m = modulator t.rate T k q [] a in
-    let m' = modulator t.rate T (keyer_of t.bits w') q (pending_in pending' 0 1) a in
+    let m' = after t w' t.resampler pending' 0 1 in
     let one : passed (take r rest) (modulator 8000 T (keyer_of t.bits w') q (pending_in pending' 0 1) a) ≡ pass (modulator 8000 T k q [] a) r =
-    (λ i. passed (p.samples i) (modulator 8000 T (p.keyer i) q (p.surplus i) a)) ∙ sym (pass-equal T k q a r u.rising.src (u.rising.dst ∙ e8)) in
+    (λ i. passed (p.samples i) (modulator 8000 T (p.keyer i) q (p.surplus i) a)) ∙ sym (pass-equal T k q a r t.rising.src (t.rising.dst ∙ e8)) in
     let is : passed (take r rest) m' ≡ pass m r = rw e8 one in
     let none = pending-none pending from t.upto (g.dry lt) in
-    going_end t l (take written out ++ (rest ++ tail)) pending' w' t.resampler 1 (written + r) 0 2 u
+    going_end t l (take written out ++ (rest ++ tail)) pending' w' t.resampler 1 (written + r) 0 2
     (record {
       within = omega arith;
       size = lo;
       pending_held = record { places = p.places; ordered = omega arith; room = omega arith };
       dry = λ h. absurd (omega arith);
-      rising = u.rising;
+      rising = t.rising;
       held = p.held;
       on =
           record {
@@ -79,17 +78,17 @@ equal-full t l written from out pending rest tail pending' w' u e8 g lt few lr l
             most = omega arith;
             fed-so =
                 record {
-                  count = u.fed.count;
-                  reached = u.fed.reached;
+                  count = t.fed.count;
+                  reached = t.fed.reached;
                   at_least = omega arith;
-                  at_most = le_trans u.fed.at_most (omega arith);
+                  at_most = le_trans t.fed.at_most (omega arith);
                 };
           };
       so =
           so-turn out rest tail l written 1 r m m' g.size lt (omega arith) (omega arith) is
           ∙ subst (λ (z : List Float). so_far out l written 1 (modulator t.rate T k q z a) ≡ Rattle.modulation.specs.Tx.filled (modulator_of t) l) none g.so;
     })
-    (omega arith) few
+    (omega arith)
 
 -- ---- the same for each sender that has these parts
 module _ (p : Parts) (l c : ℕ) (out : List Float) (h : HandsOver (pending_in p.pending p.from p.upto) l out c) (long : length out ≡ l) where
@@ -98,8 +97,8 @@ module _ (p : Parts) (l c : ℕ) (out : List Float) (h : HandsOver (pending_in p
   places-first n =
       record {
         whole =
-            λ t is u r few.
-            rw is (going_end t l out t.pending t.wave t.resampler t.upto c (t.from + c) 1 u (going_start t l c out u (rw is at h) long) (omega arith) few);
+            λ t is r.
+            rw is (going_end t l out t.pending t.wave t.resampler t.upto c (t.from + c) 1 (going_start t l c out (rw is at h) long) (omega arith));
       }
 
   -- then one pass
@@ -109,6 +108,6 @@ module _ (p : Parts) (l c : ℕ) (out : List Float) (h : HandsOver (pending_in p
   places-both rest tail pending' w' n lr lo e =
       record {
         whole =
-            λ t is u r few.
-            equal-full t l c (t.from + c) out t.pending rest tail pending' w' u r (going_start t l c out u (rw is at h) long) n few lr lo (rw is at e);
+            λ t is r.
+            equal-full t l c (t.from + c) out t.pending rest tail pending' w' r (going_start t l c out (rw is at h) long) n lr lo (rw is at e);
       }

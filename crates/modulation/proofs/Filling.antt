@@ -1,5 +1,6 @@
 -- The passes of a read: what is written and what is left are together the whole, and the slice is full within its length and two passes.
 -- Assumes nothing.
+use Rattle.std.specs.Prelude.{Ok}
 use Prim.Native.Nat.{ℕ, zero, suc, ◌+◌, ◌-◌, ◌*◌, ◌^◌, ◌<◌, ◌≤◌}
 use mathlib.Core.Path.{◌≡◌, refl, sym, ap, ap₂, ◌∙◌, subst}
 use mathlib.Core.Bool.{Bool, true, false}
@@ -20,13 +21,12 @@ use Rattle.resampling.specs.ResampleRep.{state_of}
 use Rattle.resampling.proofs.Place.{fed-moved-some, fed-yields, step-short}
 use Rattle.resampling.specs.declared.resample.Resampler.{Resampler}
 use Rattle.modulation.specs.Bits.{BitsHeld}
-use Rattle.refusal.specs.declared.Acceptance.TheVariants.{Accepted}
 use Rattle.bell103.specs.declared.TonePair.{TonePair}
 use Rattle.modulation.specs.Tone.{Keyer, generated}
 use Rattle.modulation.specs.Modulator.{Modulator, modulator, made_for, batch, Passed, passed, handed, pass}
 use Rattle.modulation.specs.Tx.{Filling, filling, pass_then, passes, filled}
 use Rattle.modulation.specs.ModulatorRep.{keyer_of, pending_in, Rising, PendingHeld, HandsOver, PassesInto}
-use Rattle.modulation.specs.TxRep.{modulator_of, Fed, TxSound, FillsWhole, after}
+use Rattle.modulation.specs.TxRep.{modulator_of, Fed, Fills, FillsWhole, after}
 use Rattle.modulation.specs.declared.modulate.Wave.{Wave}
 use Rattle.modulation.specs.declared.tx.Tx.{Tx}
 use Rattle.modulation.proofs.Slices.{drop-least, drop-take}
@@ -212,11 +212,11 @@ pub record Going (t : Tx) (l : ℕ) (out pending : List Float) (w : Wave) (r : R
       so_far out l written n (modulator t.rate t.tones (keyer_of t.bits w) (state_of r) (pending_in pending from upto) t.amplitude)
       ≡ filled (modulator_of t) l
 
-pub going_start : (t : Tx) (l c : ℕ) (out : List Float) → TxSound t → HandsOver (pending_in t.pending t.from t.upto) l out c → length out ≡ l
+pub going_start : (t : Tx) (l c : ℕ) (out : List Float) → HandsOver (pending_in t.pending t.from t.upto) l out c → length out ≡ l
     → Going t l out t.pending t.wave t.resampler t.upto c (t.from + c) 1
 unfolding modulator_of
-going_start t l c out u h e =
-    let p = u.pending in
+going_start t l c out h e =
+    let p = t.pending_held in
     let n : length (pending_in t.pending t.from t.upto) ≡ t.upto - t.from = simp (length-take, length-drop) (omega (arith, p.places, p.room)) in
     let k = h.count_is in
     record {
@@ -224,9 +224,9 @@ going_start t l c out u h e =
       size = e;
       pending_held = record { places = p.places; ordered = omega (arith, p.ordered); room = p.room };
       dry = λ w. omega (arith, p.ordered);
-      rising = u.rising;
-      held = u.bits;
-      on = on-start (2050 * t.served) l c (state_of t.resampler) u.fed;
+      rising = t.rising;
+      held = t.held;
+      on = on-start (2050 * t.served) l c (state_of t.resampler) t.fed;
       so = so-start t.rate t.tones (keyer_of t.bits t.wave) (state_of t.resampler) t.amplitude t.pending out t.from t.upto l c h;
     }
 
@@ -254,21 +254,19 @@ going-turn t l out pending w r upto written from n rest tail pending' w' r' upto
           ∙ subst (λ (z : List Float). so_far out l written n (modulator t.rate t.tones (keyer_of t.bits w) (state_of r) z t.amplitude) ≡ filled (modulator_of t) l) none g.so;
     }
 
-pub going_end : (t : Tx) (l : ℕ) (out pending : List Float) (w : Wave) (r : Resampler) (upto written from n : ℕ) → TxSound t
-    → Going t l out pending w r upto written from n → length out ≤ written → t.served + l ≤ 4294967296 → FillsWhole t l out Accepted n (after t w r pending from upto (t.served + l))
-unfolding modulator_of
-going_end t l out pending w r upto written from n u g e few =
+pub going_end : (t : Tx) (l : ℕ) (out pending : List Float) (w : Wave) (r : Resampler) (upto written from n : ℕ)
+    → Going t l out pending w r upto written from n → length out ≤ written → Fills t l out pending w r from upto n
+going_end t l out pending w r upto written from n g e =
     record {
-      accepted = refl;
-      is = so-end out l written n (modulator t.rate t.tones (keyer_of t.bits w) (state_of r) (pending_in pending from upto) t.amplitude) g.size e ∙ g.so;
+      is = so-end out l written n (after t w r pending from upto) g.size e ∙ g.so;
       few = omega (arith, g.on.few, g.within);
-      served = refl;
-      sound =
-          record {
-            rising = g.rising;
-            bits = g.held;
-            pending = g.pending_held;
-            fed = fed-end t.served l n (state_of r) _ g.on.most g.on.fed-so;
-            few = few;
-          };
+      rising = g.rising;
+      held = g.held;
+      pending_held = g.pending_held;
+      fed = fed-end t.served l n (state_of r) _ g.on.most g.on.fed-so;
     }
+
+-- the sender that the code makes of these parts
+pub fills-whole : {t t' : Tx} {l : ℕ} {out pending : List Float} {w : Wave} {r : Resampler} {from upto n : ℕ} (k : ℕ) → Fills t l out pending w r from upto n → k ≡ l
+    → modulator_of t' ≡ after t w r pending from upto → t'.served ≡ t.served + k → FillsWhole t l out (Ok tt) n t'
+fills-whole {t = t} k f e m s = record { accepted = refl; is = rw m f.is; few = f.few; served = rw (← e) s }

@@ -1,6 +1,5 @@
 -- Laws that the proofs of the functions, and other crates, cite.
 pub mod BitRing
-pub mod Room
 pub mod Slices
 pub mod Tones
 pub mod Counts

@@ -1,9 +1,9 @@
 -- What waits, laid out number by number. Assumes nothing.
 use Prim.Native.Nat.{ℕ, suc, ◌+◌, ◌-◌, ◌<◌, ◌≤◌}
-use mathlib.Core.Path.{◌≡◌, refl, sym, ap, ◌∙◌}
+use mathlib.Core.Path.{◌≡◌, sym, ap, ◌∙◌}
 use mathlib.Core.Bool.{Bool, false}
-use mathlib.Core.List.{List, [], ◌∷◌, ◌++◌, map}
-use native.Mathlib.Nat.{add-zero, sub-zero}
+use mathlib.Core.List.{List, ◌++◌, map}
+use native.Mathlib.Nat.{add-zero}
 use native.Mathlib.Numerals.{add-one}
 use native.Mathlib.Omega.{arith}
 use lib.ListN.{length, get_or, set, take, drop, replicate, length-map, length-drop, get_or-map}
@@ -17,9 +17,6 @@ use Rattle.modulation.specs.Numbers.{places_for, mark_number}
 -- ---- the first i of a list, and 0.0 in the places behind them
 abbrev pub filled : ℕ → List Float → ℕ → List Float
 filled most xs i = take i xs ++ replicate (most - i) zero64
-
-pub filled-start : (most : ℕ) (xs a : List Float) → a ≡ replicate most zero64 → a ≡ filled most xs 0
-filled-start most xs a is = rw (sub-zero most) is
 
 pub filled-step : (most i : ℕ) (xs a : List Float) (x z : Float) → length xs ≤ most → i < length xs → a ≡ filled most xs i → x ≡ get_or xs i z → set a i x ≡ filled most xs (i + 1)
 filled-step most i xs a x z few some is x-is =

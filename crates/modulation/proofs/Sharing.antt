@@ -1,11 +1,11 @@
 -- What a pass leaves in the slice and in `pending`, from what its parts ensure. Assumes nothing.
-use Prim.Native.Nat.{ℕ, ◌+◌, ◌-◌, ◌≤◌, min}
+use Prim.Native.Nat.{ℕ, ◌-◌, min}
 use mathlib.Core.Path.{◌≡◌, sym, ap, ap₂, ◌∙◌}
 use mathlib.Core.Bool.{Bool}
 use mathlib.Core.List.{List, [], ◌++◌, map}
 use native.Mathlib.Omega.{arith}
 use lib.ListN.{length, take, drop, length-drop, length-map}
-use lib.Seq.{take_at, length-take-le, take-append_seam}
+use lib.Seq.{take_at, length-take-le}
 use lib.Ieee.{Float}
 use Rattle.numeric.specs.Counts.{need}
 use Rattle.refusal.specs.Refusals.{given}
@@ -13,16 +13,15 @@ use Rattle.modulation.specs.Bits.{BitsHeld}
 use Rattle.resampling.specs.Resample.{State, state, ran_over, ran_into, max_output_len, outcome}
 use Rattle.resampling.specs.Flow.{Ran}
 use Rattle.resampling.proofs.ResampleLaws.{ran-within, run-count, run-state, run-samples}
-use Rattle.resampling.specs.ResampleRep as resample
 use Rattle.resampling.specs.ResampleRep.{state_of}
 use Rattle.bell103.specs.declared.TonePair.{TonePair}
 use Rattle.resampling.specs.declared.resample.Resampler.{Resampler}
 use Rattle.modulation.specs.declared.modulate.Wave.{Wave}
 use Rattle.modulation.specs.Tone.{Keyer, Sound, sound, generated}
 use Rattle.modulation.specs.Modulator.{Modulator, modulator, scaled, made_for, batch, passed, handed, pass}
-use Rattle.modulation.specs.ModulatorRep.{keyer_of, Rising, HandsOver, SharesInto, MakesInto, EqualInto, PassesInto}
-use Rattle.modulation.proofs.Slices.{take-map, drop-map, take-least, drop-least, take_rest}
-use Rattle.modulation.proofs.Tones.{generated-length}
+use Rattle.modulation.specs.ModulatorRep.{keyer_of, Rising, HandsOver, SharesInto, MakesInto, PassesInto}
+use Rattle.std.proofs.lemmas.List.{take-map, drop-map}
+use Rattle.modulation.proofs.Slices.{take-least, drop-least, take_rest}
 use Rattle.modulation.proofs.Counts.{surplus}
 
 -- ---- `hand_over`
@@ -49,9 +48,9 @@ shares xs a n c ys tail zs behind e ey ez l =
 -- ---- `make`
 pub makes : (a : List Bool) (t : TonePair) (w w' : Wave) (r r' : Resampler) (n : ℕ) (xs out out' : List Float) (count : ℕ)
     → sound xs (keyer_of a w') ≡ generated n t (keyer_of a w) → BitsHeld a w'.head w'.waiting → length out' ≡ length out
-    → outcome (given count) (state_of r') out' ≡ ran_into (state_of r) xs out → resample.Sound r' → MakesInto a t w r n out' count w' r'
+    → outcome (given count) (state_of r') out' ≡ ran_into (state_of r) xs out → MakesInto a t w r n out' count w' r'
 unfolding state_of
-makes a t w w' r r' n xs out out' count eg held lo ep snd =
+makes a t w w' r r' n xs out out' count eg held lo ep =
     let ex : xs ≡ (generated n t (keyer_of a w)).samples = ap (λ (z : Sound). z.samples) eg in
     let R = ran_over (state_of r) (length out) xs in
     let same : R ≡ ran_over (state_of r) (length out') (generated n t (keyer_of a w)).samples = ap₂ (ran_over (state_of r)) (sym lo) ex in
@@ -60,7 +59,6 @@ makes a t w w' r r' n xs out out' count eg held lo ep snd =
       samples = run-samples (state_of r) (state_of r') xs out out' count ep ∙ ap (λ (z : Ran). z.out) same;
       within = omega (arith, run-count (state_of r) (state_of r') xs out out' count ep, ran-within (state_of r) (length out) xs);
       state = run-state (state_of r) (state_of r') xs out out' count ep ∙ ap (λ (z : Ran). state r.src_rate r.dst_rate z.flow) same;
-      sound = snd;
       held = held;
     }
 
@@ -95,7 +93,6 @@ module _ (rate : ℕ) (t : TonePair) (amp : Float) (a : List Bool) (w w' : Wave)
             record {
               low = up.low;
               high = up.high;
-              sound = m.sound;
               src = ap (λ (z : State). z.src) m.state ∙ up.src;
               dst = ap (λ (z : State). z.dst) m.state ∙ up.dst;
             };
@@ -103,18 +100,3 @@ module _ (rate : ℕ) (t : TonePair) (amp : Float) (a : List Bool) (w w' : Wave)
       }
 
 -- ---- a pass at a rate of 8,000
--- what a pass leaves, from what its parts ensure
-pub equal-into : (b : List Bool) (t : TonePair) (a : Float) (w w' : Wave) (n count : ℕ) (xs rest pending : List Float) → sound xs (keyer_of b w') ≡ generated (n + 1) t (keyer_of b w)
-    → BitsHeld b w'.head w'.waiting → SharesInto xs a n rest count pending → EqualInto b t a w n rest pending w'
-equal-into b t a w w' n count xs rest pending e held s =
-    let ex : xs ≡ (generated (n + 1) t (keyer_of b w)).samples = ap (λ (z : Sound). z.samples) e in
-    let lx : length xs ≡ n + 1 = ap length ex ∙ generated-length (n + 1) t (keyer_of b w) in
-    let c : count ≡ n = omega (arith, s.count_is) in
-    let o : length xs - count ≡ 1 = omega arith in
-    record {
-      keyer = ap (λ (z : Sound). z.after) e;
-      samples = ap (λ (i : ℕ). take i rest) (sym c) ∙ s.samples ∙ ap (λ (l : List Float). take n (map (scaled a) l)) ex;
-      surplus = ap (λ (i : ℕ). take i pending) (sym o) ∙ s.surplus ∙ ap (λ (l : List Float). drop n (map (scaled a) l)) ex;
-      places = s.places;
-      held = held;
-    }

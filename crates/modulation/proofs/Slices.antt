@@ -2,7 +2,7 @@
 use Prim.Native.Nat.{ℕ, zero, suc, ◌+◌, ◌-◌, ◌<◌, ◌≤◌, min}
 use mathlib.Core.Path.{◌≡◌, refl, sym, ap, ◌∙◌}
 use mathlib.Core.Bool.{Bool, true, false}
-use mathlib.Core.List.{List, [], ◌∷◌, ◌++◌, map, append_assoc, append-nil}
+use mathlib.Core.List.{List, [], ◌∷◌, ◌++◌, map, append_assoc}
 use mathlib.Core.Logic.{◌⊎◌, inl, inr, ⊎_elim}
 use native.Mathlib.Nat.{le_of_lt}
 use native.Mathlib.Numerals.{add-one}
@@ -39,27 +39,6 @@ module _ {A B : Type 0} where
       ∙ ap (λ (n : ℕ). take n u ++ map f (drop n xs)) x
       ∙ into-turn f xs o (i + 1) d b (omega (arith, l)) (omega (arith, lo)) q
       ∙ into-turn f xs out i d a (omega (arith, l)) (omega arith) p
-
-  pub into-end : (f : A → B) (xs : List A) (out : List B) (i : ℕ) → length xs ≤ i → length out ≤ i → take i out ++ map f (drop i xs) ≡ out
-  into-end f xs out i h l = rw (drop_of_length-le xs h, take_all i out l, append-nil)
-
-  pub take-map : (f : A → B) (n : ℕ) (l : List A) → take n (map f l) ≡ map f (take n l)
-  take-map f zero l = refl
-  take-map f (suc n) [] = refl
-  take-map f (suc n) (x ∷ l) = ap (λ (z : List B). f x ∷ z) (take-map f n l)
-
-  pub drop-map : (f : A → B) (n : ℕ) (l : List A) → drop n (map f l) ≡ map f (drop n l)
-  drop-map f zero l = refl
-  drop-map f (suc n) [] = refl
-  drop-map f (suc n) (x ∷ l) = drop-map f n l
-
-module _ {A : Type 0} where
-  pub onto-turn : (xs out : List A) (i : ℕ) (d : A) → i < length xs → i < length out
-      → take (i + 1) (set out i (get_or xs i d)) ++ drop (i + 1) xs ≡ take i out ++ drop i xs
-  onto-turn xs out i d h l = rw (add-one, take-suc-set out i (get_or xs i d) l, drop-cons xs i d h, append_assoc)
-
-  pub onto-end : (xs out : List A) (i : ℕ) → length xs ≤ i → length out ≤ i → take i out ++ drop i xs ≡ out
-  onto-end xs out i h l = rw (drop_of_length-le xs h, take_all i out l, append-nil)
 
 split : (a b : ℕ) → (a ≤ b) ⊎ (b ≤ a)
 split a b = go (ltb a b) refl
@@ -102,10 +81,3 @@ lent_length out written l h = simp (length-take, length-drop) (omega arith)
 pub rest-length : {A : Type 0} (out rest : List A) (written l : ℕ) → length out ≡ l → written ≤ l → length (take written out ++ (rest ++ drop (length out - written) (drop written out))) ≡ l
     → length rest ≡ l - written
 rest-length out rest written l e h g = let u = simp (length-append, length-take, length-drop) at g in omega (arith, u)
-
--- a slice filled in front, and its rest by another
-pub rest-into : {A B : Type 0} (f : A → B) (xs : List A) (out r : List B) (i : ℕ) → r ≡ map f (take (length xs - i) (drop i xs))
-    → take i out ++ (r ++ drop (length out - i) (drop i out)) ≡ take i out ++ map f (drop i xs)
-rest-into f xs out r i e =
-    let z : length out - i ≡ length (drop i out) = sym (length-drop i out) in
-    rw (z, drop-length (drop i out), append-nil, e, take_rest i xs)

@@ -1,6 +1,6 @@
 -- What the request says of the table: one computed test over the code's table, and the rules that it gives at each entry. Assumes nothing.
-use Prim.Native.Nat.{ℕ, zero, suc, ◌+◌, ◌*◌, ◌-◌, ◌%◌, ◌^◌, ◌≤◌, ◌<◌}
-use mathlib.Core.Path.{◌≡◌, refl, sym, ap, ap₂, ◌∙◌, subst}
+use Prim.Native.Nat.{ℕ, zero, suc, ◌+◌, ◌*◌, ◌-◌, ◌%◌, ◌≤◌, ◌<◌}
+use mathlib.Core.Path.{◌≡◌, refl, sym, ap, ◌∙◌, subst}
 use mathlib.Core.Bool.{Bool, true, false, ◌&&◌}
 use mathlib.Core.List.{List, [], ◌∷◌}
 use native.Mathlib.Omega.{arith}
@@ -12,9 +12,8 @@ use lib.Dec.{T, ltb, leb, eqb, leb→le, eqb→eq}
 use lib.ListN.{get_or, drop}
 use lib.Seq.{get_or-drop}
 use lib.IntN.{ℤ, pos, negsuc, neg_ℤ, neg_ℤ-neg_ℤ}
-use lib.Signed.{mag}
 use lib.Ieee.{Float, le, lt, add, sub, mul, div, of_int, of_bits}
-use borrow.Author.Tests.{ltb-true, ltb-false, lt-ltb, le-ltb, le-leb}
+use borrow.Author.Tests.{ltb-true, ltb-false}
 use Rattle.numeric.specs.F64.{◌⊖◌, ◌≤ᶠ◌, whole, magnitude}
 use Rattle.std.specs.Prelude.{if◌then◌else◌}
 use Rattle.numeric.specs.Rounding.{round_usize}

@@ -1,4 +1,5 @@
 -- A symbol, a sample, a slice and a call of the sender that has no floats, from what the code's parts ensure. Assumes nothing.
+use Rattle.refusal.specs.declared.Refusal.{Refusal}
 use Prim.Native.Nat.{ℕ, zero, suc, ◌+◌, ◌*◌, ◌-◌, ◌%◌, ◌/◌, ◌<◌, ◌≤◌}
 use mathlib.Core.Path.{◌≡◌, refl, sym, ap, ◌∙◌}
 use mathlib.Core.Bool.{Bool, true, false}
@@ -8,16 +9,16 @@ use borrow.Author.Tests.{le-leb, lt-leb}
 use lib.IntN.{ℤ}
 use lib.ListN.{length, set, take}
 use lib.Seq.{take_all}
-use Rattle.std.specs.Prelude.{if◌then◌else◌}
-use Rattle.refusal.specs.Refusals.{given, acceptance_of, reply_of, is_accepted}
-use Rattle.refusal.specs.declared.Acceptance.{Acceptance}
+use Rattle.std.specs.Prelude.{if◌then◌else◌, Result, is_ok}
+use Rattle.refusal.specs.Refusals.{given, reply_in, reply_of}
 use Rattle.bell103.specs.declared.Role.{Role}
 use Rattle.bell103.specs.declared.Role.TheVariants.{Originate, Answer}
 use Rattle.modulation.specs.Bits.{queued, next_bit, rest_bits, Takes}
 use Rattle.modulation.specs.Tx.{read_refused}
 use Rattle.modulation.specs.Table.{places, entry_of}
 use Rattle.modulation.specs.TableTx.{Phase, phase, begins, begun, hops_of, hop_of, moved, Sent, sending, sent, table_sender, table_reading, table_read_of}
-use Rattle.modulation.specs.TableTxRep.{phase_of, Keyed, HopsHeld, Begins, table_of, TableSound}
+use Rattle.modulation.specs.Keying.{phase_of, Keyed, HopsHeld, Begins}
+use Rattle.modulation.specs.TableTxRep.{table_of}
 use Rattle.modulation.specs.declared.bits.Taken.{Taken}
 use Rattle.modulation.specs.declared.table_tx.Hops.{Hops}
 use Rattle.modulation.specs.declared.table_tx.Keying.{Keying}
@@ -100,13 +101,13 @@ module _ (n : ℕ) (h : Hops) where
   sent-done out i k l m = let g : n ≤ i = omega arith in rw (left-none n i g, take_all i out m, append-nil)
 
 -- ---- `read`
-pub reads_none : (t : TableTx) (o : List ℤ) (a : Acceptance) → acceptance_of a ≡ reply_of (read_refused t.keying.samples (length o)) → is_accepted a ≡ false
-    → table_reading (acceptance_of a) (table_of t) o ≡ table_read_of (table_of t) o
+pub reads_none : (t : TableTx) (o : List ℤ) (a : Result Unit Refusal) → reply_in a ≡ reply_of (read_refused t.keying.samples (length o)) → is_ok a ≡ false
+    → table_reading (reply_in a) (table_of t) o ≡ table_read_of (table_of t) o
 unfolding table_read_of table_of
 reads_none t o a e n = let s = some-refused a (read_refused t.keying.samples (length o)) e n in rw (e, s.1)
 
-pub reads_whole : (t : TableTx) (o o' : List ℤ) (k : Keying) (a : Acceptance) → acceptance_of a ≡ reply_of (read_refused t.keying.samples (length o)) → read_refused t.keying.samples (length o) ≡ 0
+pub reads_whole : (t : TableTx) (o o' : List ℤ) (k : Keying) (a : Result Unit Refusal) → reply_in a ≡ reply_of (read_refused t.keying.samples (length o)) → read_refused t.keying.samples (length o) ≡ 0
     → sending o' (phase_of t.bits k) ≡ sent (length o) t.hops (phase_of t.bits t.keying)
-    → table_reading (acceptance_of a) (table_sender t.hops (phase_of t.bits k)) o' ≡ table_read_of (table_of t) o
+    → table_reading (reply_in a) (table_sender t.hops (phase_of t.bits k)) o' ≡ table_read_of (table_of t) o
 unfolding table_read_of table_of
 reads_whole t o o' k a e z f = rw (e, z) (ap (λ (s : Sent). table_reading (given tt) (table_sender t.hops s.after) s.samples) f)

@@ -1,13 +1,13 @@
 -- The sender that has no floats, by the sample's number: no drift, the closed form, and what the other end hears. Assumes nothing.
-use Prim.Native.Nat.{ℕ, zero, suc, ◌+◌, ◌*◌, ◌-◌, ◌%◌, ◌/◌, ◌<◌, ◌≤◌}
+use Prim.Native.Nat.{ℕ, zero, suc, ◌+◌, ◌*◌, ◌-◌, ◌%◌, ◌/◌, ◌<◌}
 use mathlib.Core.Path.{◌≡◌, refl, sym, ap, ap₂, ◌∙◌}
 use mathlib.Core.Bool.{Bool, true, false}
 use mathlib.Core.List.{List, [], ◌∷◌, ◌++◌}
 use native.Mathlib.Omega.{arith}
 use native.Mathlib.Nat.{zero-add, suc-add}
 use native.Mathlib.Numerals.{add-one}
-use borrow.Author.Tests.{le-leb, lt-leb, leb-true, leb-false, ltb-true, ltb-false, eqb-true, eq-eqb, ne_eqb}
-use lib.Dec.{leb, ltb, eqb}
+use borrow.Author.Tests.{le-leb, lt-leb, leb-true, leb-false, ltb-true, ltb-false, eqb-true, eq-eqb}
+use lib.Dec.{ltb, eqb}
 use lib.IntN.{ℤ}
 use lib.ListN.{length, get_or, drop}
 use Rattle.std.specs.Prelude.{if◌then◌else◌}
@@ -23,7 +23,7 @@ use Rattle.modulation.specs.Requests as requests
 use Rattle.modulation.specs.Requests.{symbols, queue_after, bytes_asked, OfBytes}
 use Rattle.modulation.specs.Table.{places, entry_of}
 use Rattle.modulation.specs.TableTx.{hops_of, hop_of, Phase, phase, begins, begun, moved, Sent, sending, sent, fresh_table, phase_asked}
-use Rattle.modulation.specs.TableTx.{begins_at, symbol_at, travelled, sample_at, samples_from, Beat, ask, sample, samples_of, count_of, turns_of, reads, EachEntry, bits_sent}
+use Rattle.modulation.specs.TableTx.{begins_at, symbol_at, travelled, samples_from, Beat, ask, sample, samples_of, count_of, turns_of, reads, EachEntry, bits_sent}
 use Rattle.modulation.specs.declared.table_tx.Hops.{Hops}
 use Rattle.modulation.proofs.RequestLaws.{both_ends}
 use Rattle.modulation.proofs.TableSteps.{samples-one-on}

@@ -1,12 +1,12 @@
 -- A symbol, a sample and a slice of samples at 8,000 Hz, from what the code's parts ensure. Assumes nothing.
 use Prim.Native.Nat.{ℕ, zero, suc, ◌+◌, ◌-◌, ◌<◌, ◌≤◌}
-use mathlib.Core.Path.{◌≡◌, refl, sym, ap, ap₂, ◌∙◌}
+use mathlib.Core.Path.{◌≡◌, refl, ap, ap₂, ◌∙◌}
 use mathlib.Core.Bool.{Bool, true, false}
 use mathlib.Core.List.{List, [], ◌∷◌, ◌++◌, append_assoc, append-nil}
 use native.Mathlib.Numerals.{add-one}
 use native.Mathlib.Omega.{arith}
-use lib.ListN.{length, set, take, drop, length-set, length-drop}
-use lib.Seq.{take-suc-set, take_all, drop-length}
+use lib.ListN.{length, set, take, length-set}
+use lib.Seq.{take-suc-set, take_all}
 use lib.Ieee.{Float}
 use Rattle.numeric.specs.F64.{◌⊕◌, ◌⊖◌, ◌⊘◌, ◌≤ᶠ◌, one64}
 use Rattle.numeric.specs.Sine.{sine_of}
@@ -105,9 +105,6 @@ abbrev pub sound_at : List Float → ℕ → ℕ → TonePair → Keyer → Soun
 sound_at out i n t k = sound (take i out ++ (generated (n - i) t k).samples) (generated (n - i) t k).after
 
 module _ (n : ℕ) (t : TonePair) where
-  pub sound-start : (out : List Float) (k : Keyer) → sound_at out 0 n t k ≡ generated n t k
-  sound-start out k = let z : n - 0 ≡ n = omega arith in rw z
-
   pub sound-turn : (out : List Float) (i : ℕ) (k : Keyer) (v : Float) (k' : Keyer) → i < n → i < length out → tick v k' ≡ ticked t k
       → sound_at (set out i v) (i + 1) n t k' ≡ sound_at out i n t k
   unfolding generated
@@ -123,13 +120,6 @@ module _ (n : ℕ) (t : TonePair) where
       let z : n - i ≡ m + (n - (i + m)) = omega arith in
       let on : Sound → Sound = λ x. sound (take i out ++ (followed t (n - (i + m)) x).samples) (followed t (n - (i + m)) x).after in
       rw (z, generated-more m (n - (i + m)) t k, s.front, append_assoc) (ap on e)
-
-  -- the rest, by another
-  pub sound-rest : (out rest : List Float) (i : ℕ) (k k' : Keyer) → length out ≡ n → sound rest k' ≡ generated (n - i) t k
-      → sound (take i out ++ (rest ++ drop (length out - i) (drop i out))) k' ≡ sound_at out i n t k
-  sound-rest out rest i k k' l e =
-      let z : length out - i ≡ length (drop i out) = sym (length-drop i out) in
-      rw (z, drop-length (drop i out), append-nil) (ap (λ (s : Sound). sound (take i out ++ s.samples) s.after) e)
 
   pub sound-done : (out : List Float) (i : ℕ) (k : Keyer) → length out ≡ n → length out ≤ i → sound out k ≡ sound_at out i n t k
   unfolding generated

@@ -5,10 +5,12 @@ pub mod Tone
 pub mod Modulator
 pub mod ModulatorRep
 pub mod Tx
+pub mod Fed
 pub mod TxRep
 pub mod Queueing
 pub mod Table
 pub mod TableTx
+pub mod Keying
 pub mod TableTxRep
 pub mod Nco
 pub mod Numbers

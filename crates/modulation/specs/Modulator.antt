@@ -8,7 +8,7 @@ use Rattle.numeric.specs.Counts.{need}
 use Rattle.resampling.specs.Resample.{State, state, ran_over, max_output_len}
 use Rattle.resampling.specs.Flow.{Ran}
 use Rattle.bell103.specs.declared.TonePair.{TonePair}
-use Rattle.modulation.specs.Tone.{Keyer, keyer, Sound, generated}
+use Rattle.modulation.specs.Tone.{Keyer, Sound, generated}
 
 -- ---- what sounds
 -- the device's rate, the tones, the keyer, the resampler up to the rate, the samples that were made and not yet read, and the output scale

@@ -3,7 +3,6 @@ use Rattle.std.specs.Prelude.{ℕ, min, ◌+◌, ◌-◌, ◌≤◌, ◌<◌, �
 use Rattle.modulation.specs.Bits.{queued, BitsHeld}
 use Rattle.refusal.specs.Refusals.{dsp_rate, highest_rate}
 use Rattle.resampling.specs.Resample.{state, ran_over}
-use Rattle.resampling.specs.ResampleRep as resample
 use Rattle.resampling.specs.ResampleRep.{state_of}
 use Rattle.modulation.specs.Tone.{Keyer, keyer, generated}
 use Rattle.modulation.specs.Modulator.{Modulator, modulator, passed, pass, scaled}
@@ -38,7 +37,6 @@ modulator_by a s w r = modulator s.rate s.tones (keyer_of a w) (state_of r) [] s
 pub record Rising (rate : ℕ) (r : Resampler) : Type 0 where
   pub low : dsp_rate ≤ rate
   pub high : rate ≤ highest_rate
-  pub sound : resample.Sound r
   pub src : r.src_rate ≡ dsp_rate
   pub dst : r.dst_rate ≡ rate
 
@@ -54,7 +52,6 @@ pub record MakesInto (a : List Bool) (tones : TonePair) (w : Wave) (r : Resample
   pub samples : take count out ≡ (ran_over (state_of r) (length out) (generated n tones (keyer_of a w)).samples).out
   pub within : count ≤ length out
   pub state : state_of r' ≡ state r.src_rate r.dst_rate (ran_over (state_of r) (length out) (generated n tones (keyer_of a w)).samples).flow
-  pub sound : resample.Sound r'
   pub held : BitsHeld a w'.head w'.waiting
 
 -- what is pending, handed over to the front of a slice of n places

@@ -1,18 +1,20 @@
 -- What a caller queues for the sender: `write` and `write_idle_mark`. Assumes nothing.
 use Rattle.std.specs.Prelude.{ℕ, ◌≡◌, refl, Bool, true, false, List, ◌++◌}
 use Rattle.std.specs.Prelude.{if◌then◌else◌}
-use Rattle.refusal.specs.Refusals.{Reply, given, refused, acceptance_of}
+use Rattle.refusal.specs.Refusals.{Reply, given, refused, reply_in}
 use Rattle.modulation.specs.Requests.{Request, write, idle_mark, bits_of, is_refused, reply_to, asked}
 use Rattle.modulation.specs.Bits.{queued, BitsHeld}
 use Rattle.modulation.specs.Tone.{keyer}
 use Rattle.modulation.specs.Modulator.{Modulator, modulator}
+use Rattle.modulation.specs.ModulatorRep.{pending_in}
 use Rattle.modulation.specs.Tx.{Sender, sender}
+use Rattle.resampling.specs.ResampleRep.{state_of}
 use Rattle.modulation.specs.declared.bits.Asked.{Asked}
 use Rattle.modulation.specs.declared.tx.Tx.{Tx}
 
 -- a request of a queue that stands in the ring a: its answer, and the queue afterwards, in the ring b. Both senders use it
 pub record Asks (head : ℕ) (a : List Bool) (waiting : ℕ) (r : Request) (b : List Bool) (x : Asked) : Type 0 where
-  pub answer : acceptance_of x.answer ≡ reply_to (queued a head waiting) r
+  pub answer : reply_in x.answer ≡ reply_to (queued a head waiting) r
   pub waits : queued b head x.waiting ≡ asked (queued a head waiting) r
   pub held : BitsHeld b head x.waiting
 
@@ -55,24 +57,8 @@ write_of s bytes = requested s (write bytes)
 abbrev pub idle_mark_of : Sender → ℕ → Queueing
 idle_mark_of s n = requested s (idle_mark n)
 
--- the code's sender with another ring, in which so many bits wait
-abbrev pub with_bits : Tx → List Bool → ℕ → Tx
+-- the sender with another ring, in which so many bits wait
+abbrev pub with_bits : Tx → List Bool → ℕ → Sender
 with_bits t bits waiting =
-    record {
-      rate = t.rate;
-      tones = t.tones;
-      bits = bits;
-      wave = record {
-        nco = t.wave.nco;
-        sym_pos = t.wave.sym_pos;
-        current = t.wave.current;
-        head = t.wave.head;
-        waiting = waiting;
-      };
-      resampler = t.resampler;
-      pending = t.pending;
-      from = t.from;
-      upto = t.upto;
-      amplitude = t.amplitude;
-      served = t.served;
-    }
+    let k = keyer t.wave.nco t.wave.sym_pos t.wave.current (queued bits t.wave.head waiting) in
+    sender (modulator t.rate t.tones k (state_of t.resampler) (pending_in t.pending t.from t.upto) t.amplitude) t.served

@@ -2,7 +2,6 @@
 use Rattle.std.specs.Prelude.{ℕ, ◌*◌, Bool, List, [], ◌∷◌, ◌++◌, length}
 use Rattle.std.specs.Prelude.{if◌then◌else◌}
 use Rattle.refusal.specs.Refusals.{Reply, given, refused}
-use Rattle.framing.specs.Frame.{mark}
 use Rattle.framing.specs.Framing.{marks, frames_of, AreBytes}
 use Rattle.modulation.specs.Bits.{bits_refused, next_bit, rest_bits}
 

@@ -1,6 +1,6 @@
 -- The sender of a gauge that has no floats (document 02, K6): the bits that wait, keyed as places of a table of sines, at 8,000 Hz. All in whole
 -- numbers; how the code holds it stands in specs/TableTxRep.antt. Assumes nothing.
-use Rattle.std.specs.Prelude.{ℕ, zero, suc, ◌+◌, ◌*◌, ◌/◌, ◌%◌, ◌<◌, ◌≡◌, Bool, true, false, List, [], ◌∷◌, ◌++◌, leb, length, get_or, ℤ}
+use Rattle.std.specs.Prelude.{ℕ, zero, suc, ◌+◌, ◌*◌, ◌/◌, ◌%◌, ◌<◌, ◌≡◌, Bool, true, false, List, [], ◌∷◌, leb, length, get_or, ℤ}
 use Rattle.std.specs.Prelude.{if◌then◌else◌}
 use Rattle.refusal.specs.Refusals.{Reply, given, refused}
 use Rattle.bell103.specs.declared.Role.{Role}

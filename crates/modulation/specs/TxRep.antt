@@ -1,16 +1,14 @@
 -- How the code's `Tx` holds what specs/Tx.antt speaks of, and the invariant of its states. Assumes nothing.
-use Rattle.std.specs.Prelude.{ℕ, ◌+◌, ◌*◌, ◌≤◌, ◌≡◌, Bool, List, Float}
+use Rattle.refusal.specs.declared.Refusal.{Refusal}
+use Rattle.std.specs.Prelude.{ℕ, ◌+◌, ◌*◌, ◌≤◌, ◌≡◌, Bool, List, Float, Result, Ok}
 use Rattle.modulation.specs.Bits.{BitsHeld}
-use Rattle.resampling.specs.Resample.{State}
 use Rattle.resampling.specs.ResampleRep.{state_of}
 use Rattle.resampling.specs.declared.resample.Resampler.{Resampler}
 use Rattle.bell103.specs.declared.TonePair.{TonePair}
 use Rattle.modulation.specs.declared.modulate.Wave.{Wave}
-use Rattle.resampling.specs.Flow.{Reached}
+pub use Rattle.modulation.specs.Fed.{Fed}
 use Rattle.modulation.specs.Tx.{Sender, sender, filling, filled}
 use Rattle.refusal.specs.Refusals.{dsp_rate}
-use Rattle.refusal.specs.declared.Acceptance.{Acceptance}
-use Rattle.refusal.specs.declared.Acceptance.TheVariants.{Accepted}
 use Rattle.modulation.specs.declared.tx.Tx.{Tx}
 use Rattle.modulation.specs.declared.tx.Filled.{Filled}
 use Rattle.modulation.specs.Modulator.{Modulator, modulator}
@@ -24,14 +22,7 @@ modulator_of t =
 unfoldable pub sender_of : Tx → Sender
 sender_of t = sender (modulator_of t) t.served
 
--- at least j samples went into the resampler, and at most `most`
-pub record Fed (j most : ℕ) (s : State) : Type 0 where
-  pub count : ℕ
-  pub reached : Reached count s.flow
-  pub at_least : j ≤ count
-  pub at_most : count ≤ most
-
--- a state that `new` or a later call gave. For each sample that it gave, at most 2,050 went into the resampler
+-- what each value of the type keeps (proofs/QueueingLaws.antt, tx-sound-of). For each sample that it gave, at most 2,050 went into the resampler
 pub record TxSound (t : Tx) : Type 0 where
   pub rising : Rising t.rate t.resampler
   pub bits : BitsHeld t.bits t.wave.head t.wave.waiting
@@ -40,28 +31,25 @@ pub record TxSound (t : Tx) : Type 0 where
   pub few : t.served ≤ 4294967296
 
 -- a slice of n places filled whole, and in how many passes
-pub record FillsWhole (t : Tx) (n : ℕ) (out : List Float) (answer : Acceptance) (passes : ℕ) (t' : Tx) : Type 0 where
-  pub accepted : answer ≡ Accepted
+pub record FillsWhole (t : Tx) (n : ℕ) (out : List Float) (answer : Result Unit Refusal) (passes : ℕ) (t' : Tx) : Type 0 where
+  pub accepted : answer ≡ Ok tt
   pub is : filling out (modulator_of t') passes ≡ filled (modulator_of t) n
   pub few : passes ≤ n + 2
   pub served : t'.served ≡ t.served + n
-  pub sound : TxSound t'
 
--- the sender with this wave and resampler, with what is pending, and so many samples given
-abbrev pub after : Tx → Wave → Resampler → List Float → ℕ → ℕ → ℕ → Tx
-after t w r pending from upto served =
-    record {
-      rate = t.rate;
-      tones = t.tones;
-      bits = t.bits;
-      wave = w;
-      resampler = r;
-      pending = pending;
-      from = from;
-      upto = upto;
-      amplitude = t.amplitude;
-      served = served;
-    }
+-- the modulator of a sender with this wave and resampler, and with what is pending
+abbrev pub after : Tx → Wave → Resampler → List Float → ℕ → ℕ → Modulator
+after t w r pending from upto =
+    modulator t.rate t.tones (keyer_of t.bits w) (state_of r) (pending_in pending from upto) t.amplitude
+
+-- what moved while a slice of n places was filled whole, and in how many passes
+pub record Fills (t : Tx) (n : ℕ) (out pending : List Float) (w : Wave) (r : Resampler) (from upto passes : ℕ) : Type 0 where
+  pub is : filling out (after t w r pending from upto) passes ≡ filled (modulator_of t) n
+  pub few : passes ≤ n + 2
+  pub rising : Rising t.rate r
+  pub held : BitsHeld t.bits w.head w.waiting
+  pub pending_held : PendingHeld pending from upto
+  pub fed : Fed 0 (2050 * (t.served + n)) (state_of r)
 
 -- ---- a slice at 8,000, where the resampler has no part
 -- what fills it
@@ -80,14 +68,9 @@ parts_for b t w a p from upto = record { bits = b; tones = t; wave = w; amplitud
 abbrev pub parts_of : Tx → Parts
 parts_of t = parts_for t.bits t.tones t.wave t.amplitude t.pending t.from t.upto
 
--- the sender after n samples that moved so much
-abbrev pub after_filled : Tx → List Float → Filled → ℕ → Tx
-after_filled t pending f n = after t f.wave t.resampler pending f.from f.upto (t.served + n)
-
 -- a slice of n places filled whole for each sender at 8,000 that has these parts, whatever its resampler holds
 pub record FillsPlaces (p : Parts) (n : ℕ) (out pending : List Float) (f : Filled) : Type 0 where
-  pub whole : (t : Tx) → p ≡ parts_of t → TxSound t → t.rate ≡ dsp_rate → t.served + n ≤ 4294967296
-      → FillsWhole t n out Accepted f.passes (after_filled t pending f n)
+  pub whole : (t : Tx) → p ≡ parts_of t → t.rate ≡ dsp_rate → Fills t n out pending f.wave t.resampler f.from f.upto f.passes
 
 -- the same, of parts one by one
 abbrev pub FillsBy : List Bool → TonePair → Wave → Float → List Float → ℕ → ℕ → ℕ → List Float → List Float → Filled → Type 0

@@ -1,4 +1,5 @@
-// The bits that wait to be sent: a ring of 4,096 places, which the sender lends, the place of the oldest bit, and how many wait.
+// The bits that wait to be sent: a ring of 4,096 places, which the sender lends, the place of the oldest bit, and how many wait. The ring and the
+// two numbers go apart, and each contract asks `BitsHeld` of them: a struct of the three would be copied, 4 kB at a time, with what moves at each sample.
 ghost use Rattle.std.specs.Prelude.{◌≡◌, [], ◌∷◌, ◌+◌, ◌*◌, ◌%◌, ◌≤◌, ◌<◌, length};
 ghost use Rattle.framing.specs.Frame.{frame_of};
 ghost use Rattle.framing.specs.Framing.{marks, frames_of};
@@ -7,7 +8,7 @@ ghost use Rattle.modulation.specs.Requests.{write, idle_mark};
 ghost use Rattle.modulation.specs.Queueing.{Asks};
 
 use framing::frame::frame_byte;
-use refusal::{Acceptance, Refusal};
+use refusal::Refusal;
 
 // As many bits wait at most.
 pub(crate) const MOST_BITS: usize = 4096;
@@ -18,20 +19,14 @@ pub(crate) const MOST_BITS: usize = 4096;
 pub(crate) fn bits_refused(waiting: usize, n: usize) -> bool
     ensures { result ≡ bits_refused waiting n }
 {
-    if MOST_BITS < waiting {
-        return true;
-    }
-    MOST_BITS - waiting < n
+    MOST_BITS < waiting || MOST_BITS - waiting < n
 }
 
 // The same for the frames of so many bytes.
 pub(crate) fn frames_refused(waiting: usize, bytes: usize) -> bool
     ensures { result ≡ bits_refused waiting (10 * bytes) }
 {
-    if MOST_BITS < waiting {
-        return true;
-    }
-    (MOST_BITS - waiting) / 10 < bytes
+    MOST_BITS < waiting || (MOST_BITS - waiting) / 10 < bytes
 }
 
 // ---- the ring
@@ -96,10 +91,8 @@ pub(crate) fn push_marks(bits: &mut [bool; 4096], head: usize, waiting: usize, n
     ensures { Joined head bits.old waiting (marks n) bits.new result }
 {
     let mut at = waiting;
-    let mut i = 0;
-    while i < n {
+    for _ in 0..n {
         at = push_one(bits, head, at, true);
-        i += 1;
     }
     at
 }
@@ -111,10 +104,8 @@ fn push_frame(bits: &mut [bool; 4096], head: usize, waiting: usize, b: u8) -> us
 {
     let frame = frame_byte(b);
     let mut at = waiting;
-    let mut i = 0;
-    while i < 10 {
-        at = push_one(bits, head, at, frame[i]);
-        i += 1;
+    for bit in &frame {
+        at = push_one(bits, head, at, *bit);
     }
     at
 }
@@ -130,11 +121,8 @@ pub(crate) fn push_frames(
     ensures { Joined head bits.old waiting (frames_of «data».now) bits.new result }
 {
     let mut at = waiting;
-    let mut i = 0;
-    while i < data.len() {
-        let b = data[i];
-        at = push_frame(bits, head, at, b);
-        i += 1;
+    for b in data {
+        at = push_frame(bits, head, at, *b);
     }
     at
 }
@@ -144,7 +132,7 @@ pub(crate) fn push_frames(
 // The answer, and how many bits wait then.
 #[derive(Clone, Copy)]
 pub struct Asked {
-    pub answer: Acceptance,
+    pub answer: Result<(), Refusal>,
     pub waiting: usize,
 }
 
@@ -155,13 +143,13 @@ pub(crate) fn ask_frames(bits: &mut [bool; 4096], head: usize, waiting: usize, d
 {
     if frames_refused(waiting, data.len()) {
         return Asked {
-            answer: Acceptance::Refused(Refusal::BitsWait),
+            answer: Err(Refusal::BitsWait),
             waiting,
         };
     }
     let framed = push_frames(bits, head, waiting, data);
     Asked {
-        answer: Acceptance::Accepted,
+        answer: Ok(()),
         waiting: framed,
     }
 }
@@ -173,13 +161,13 @@ pub(crate) fn ask_marks(bits: &mut [bool; 4096], head: usize, waiting: usize, n:
 {
     if bits_refused(waiting, n) {
         return Asked {
-            answer: Acceptance::Refused(Refusal::BitsWait),
+            answer: Err(Refusal::BitsWait),
             waiting,
         };
     }
     let idle = push_marks(bits, head, waiting, n);
     Asked {
-        answer: Acceptance::Accepted,
+        answer: Ok(()),
         waiting: idle,
     }
 }

@@ -20,6 +20,5 @@ mod table;
 mod table_tx;
 mod tx;
 
-pub use queueing::Queueing;
-pub use table_tx::{TableQueueing, TableReading, TableTx};
-pub use tx::{Adjusted, Tx};
+pub use table_tx::TableTx;
+pub use tx::Tx;

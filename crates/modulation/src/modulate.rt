@@ -4,7 +4,6 @@ ghost use Rattle.numeric.specs.Counts.{need};
 ghost use Rattle.modulation.specs.Bits.{queued, BitsHeld};
 ghost use Rattle.refusal.specs.Refusals.{dsp_rate, highest_rate};
 ghost use Rattle.resampling.specs.Resample.{max_output_len};
-ghost use Rattle.resampling.specs.ResampleRep.{Sound};
 ghost use Rattle.modulation.specs.Tone.{tone_of, keyed, tick, ticked, sound, generated};
 ghost use Rattle.modulation.specs.Modulator.{scaled};
 ghost use Rattle.modulation.specs.ModulatorRep.{keyer_of, WaveHeld, eight_of, Rising, MakesInto, SharesInto, EqualInto, PassesOver, HandsOver};
@@ -12,9 +11,9 @@ ghost use Rattle.modulation.specs.ModulatorRep.{keyer_of, WaveHeld, eight_of, Ri
 use crate::bits::take_bit;
 use crate::nco::Nco;
 use bell103::{TonePair, samples_per_symbol};
+use numeric::arrays::filled;
 use numeric::convert::{narrow, narrow_four};
 use numeric::counts::{ceiling, nearest};
-use numeric::ends::smaller;
 use numeric::phase::turn;
 use numeric::sine::sine;
 use numeric::sines::sines_eight;
@@ -33,6 +32,7 @@ pub struct Wave {
 
 // ---- tones
 
+// Not one function with `hop_of` of the other sender: a choice by a bit that is handed both is an `if` with more words.
 fn tone_of(t: TonePair, bit: bool) -> f64
     ensures { result ≡ tone_of t bit }
 {
@@ -77,6 +77,7 @@ fn advance(bits: &[bool; 4096], t: TonePair, w: Wave) -> Wave
     ensures bits_held { BitsHeld bits.now result.head result.waiting }
 {
     let nco = w.nco;
+    // Field by field, as in table_tx.rs.
     let on = Nco {
         phase: turn(nco.phase, nco.inc),
         inc: nco.inc,
@@ -164,12 +165,10 @@ fn generate_singly(bits: &[bool; 4096], t: TonePair, w: Wave, out: &mut [f64]) -
     ensures bits_held { BitsHeld bits.now result.head result.waiting }
 {
     let mut wave = w;
-    let mut i = 0;
-    while i < out.len() {
+    for x in out.iter_mut() {
         let s = step(bits, t, wave);
-        out[i] = s.value;
+        *x = s.value;
         wave = s.wave;
-        i += 1;
     }
     wave
 }
@@ -181,6 +180,7 @@ fn generate(bits: &[bool; 4096], t: TonePair, w: Wave, out: &mut [f64]) -> Wave
     ensures bits_held { BitsHeld bits.now result.head result.waiting }
 {
     let mut wave = w;
+    // Eight at a time, for speed: their sines stand side by side.
     let mut i = 0;
     while i + 7 < out.len() {
         let s = step_eight(bits, t, wave);
@@ -211,10 +211,8 @@ fn scale_singly(xs: &[f64], a: f32, out: &mut [f32])
     requires { length xs.now ≡ length out.old }
     ensures { out.new ≡ map (scaled a) xs.now }
 {
-    let mut i = 0;
-    while i < out.len() {
+    for i in 0..out.len() {
         out[i] = scale(a, xs[i]);
-        i += 1;
     }
 }
 
@@ -223,6 +221,7 @@ fn scale_into(xs: &[f64], a: f32, out: &mut [f32])
     requires { length xs.now ≡ length out.old }
     ensures { out.new ≡ map (scaled a) xs.now }
 {
+    // Four at a time, for speed: they are cast together.
     let mut i = 0;
     while i + 3 < out.len() {
         let n = narrow_four(xs[i], xs[i + 1], xs[i + 2], xs[i + 3]);
@@ -235,24 +234,12 @@ fn scale_into(xs: &[f64], a: f32, out: &mut [f32])
     scale_singly(&xs[i..], a, &mut out[i..]);
 }
 
-fn copy(xs: &[f32], out: &mut [f32])
-    requires { length xs.now ≡ length out.old }
-    ensures { out.new ≡ xs.now }
-{
-    let mut i = 0;
-    while i < out.len() {
-        out[i] = xs[i];
-        i += 1;
-    }
-}
-
 // Hands over what is pending, as far as there is room, and says how much that is.
 pub(crate) fn hand_over(waiting: &[f32], out: &mut [f32]) -> usize
     ensures { HandsOver waiting.now (length out.old) out.new result }
 {
-    let n = out.len();
-    let count = smaller(n, waiting.len());
-    copy(&waiting[..count], &mut out[..count]);
+    let count = out.len().min(waiting.len());
+    out[..count].copy_from_slice(&waiting[..count]);
     count
 }
 
@@ -262,8 +249,7 @@ fn share(xs: &[f64], a: f32, pending: &mut [f32], rest: &mut [f32]) -> usize
     ensures { SharesInto xs.now a (length rest.old) rest.new result pending.new }
 {
     let k = xs.len();
-    let n = rest.len();
-    let count = smaller(n, k);
+    let count = rest.len().min(k);
     scale_into(&xs[..count], a, &mut rest[..count]);
     let surplus = k - count;
     scale_into(&xs[count..], a, &mut pending[..surplus]);
@@ -304,7 +290,7 @@ fn make(
     scratch: &mut [f64],
     out: &mut [f64],
 ) -> Made
-    requires { WaveHeld bits.now w × Sound r }
+    requires { WaveHeld bits.now w }
     ensures { MakesInto bits.now t w r (length scratch.old) out.new result.count result.wave result.resampler }
 {
     let wave = generate(bits, t, w, scratch);
@@ -354,30 +340,16 @@ fn pass_in(
     let m = make(bits, t, w, r, scratch, out);
     let k = m.count;
     let count = share(&out[..k], s.amplitude, pending, rest);
-    let wave = m.wave;
-    let resampler = m.resampler;
     Passed {
         count,
         upto: k - count,
-        wave,
-        resampler,
+        wave: m.wave,
+        resampler: m.resampler,
     }
 }
 
-fn zeros_80() -> [f64; 80]
-    ensures { length result ≡ 80 }
-{
-    [0.0f64; 80]
-}
-
-fn zeros_1040() -> [f64; 1040]
-    ensures { length result ≡ 1040 }
-{
-    [0.0f64; 1040]
-}
-
-// A pass over a short rest: small arrays are soon cleared.
-fn pass_short(
+// A pass in arrays of N places: 80 are soon cleared and do for a short rest, 1,040 for any.
+fn pass_within<const N: usize>(
     bits: &[bool; 4096],
     s: Settings,
     w: Wave,
@@ -385,43 +357,14 @@ fn pass_short(
     pending: &mut [f32],
     rest: &mut [f32],
 ) -> Passed
-    requires { WaveHeld bits.now w × Rising s.rate r × (dsp_rate < s.rate) × (length rest.old ≤ 64) × (length pending.old ≡ 64) }
+    requires wave_held { WaveHeld bits.now w × Rising s.rate r × (dsp_rate < s.rate) × (length rest.old ≤ 1024) × (length pending.old ≡ 64) }
+    requires room { (length rest.old + 16 ≤ N) × (N ≤ 1040) }
     ensures { PassesOver bits.now s w r (length rest.old) rest.new pending.new result }
 {
-    let n = rest.len();
-    let k = need_for(n, s.rate);
+    let k = need_for(rest.len(), s.rate);
     let room = room_for(k, s.rate);
-    let mut scratch = zeros_80();
-    let mut out = zeros_80();
-    pass_in(
-        bits,
-        s,
-        w,
-        r,
-        &mut scratch[..k],
-        &mut out[..room],
-        pending,
-        rest,
-    )
-}
-
-// A pass over any rest.
-fn pass_long(
-    bits: &[bool; 4096],
-    s: Settings,
-    w: Wave,
-    r: Resampler,
-    pending: &mut [f32],
-    rest: &mut [f32],
-) -> Passed
-    requires { WaveHeld bits.now w × Rising s.rate r × (dsp_rate < s.rate) × (length rest.old ≤ 1024) × (length pending.old ≡ 64) }
-    ensures { PassesOver bits.now s w r (length rest.old) rest.new pending.new result }
-{
-    let n = rest.len();
-    let k = need_for(n, s.rate);
-    let room = room_for(k, s.rate);
-    let mut scratch = zeros_1040();
-    let mut out = zeros_1040();
+    let mut scratch: [f64; N] = filled(0.0);
+    let mut out: [f64; N] = filled(0.0);
     pass_in(
         bits,
         s,
@@ -447,9 +390,10 @@ pub(crate) fn pass(
     ensures { PassesOver bits.now s w r (length rest.old) rest.new pending.new result }
 {
     if rest.len() <= 64 {
-        return pass_short(bits, s, w, r, pending, rest);
+        pass_within::<80>(bits, s, w, r, pending, rest)
+    } else {
+        pass_within::<1040>(bits, s, w, r, pending, rest)
     }
-    pass_long(bits, s, w, r, pending, rest)
 }
 
 // ---- a pass at a rate of 8,000, where nothing is resampled
@@ -472,8 +416,8 @@ fn equal_in(
     wave
 }
 
-// A pass over a short rest: a small array is soon cleared.
-fn equal_short(
+// A pass in an array of N places, as `pass_within`.
+fn equal_within<const N: usize>(
     bits: &[bool; 4096],
     t: TonePair,
     w: Wave,
@@ -481,28 +425,11 @@ fn equal_short(
     pending: &mut [f32],
     rest: &mut [f32],
 ) -> Wave
-    requires { BitsHeld bits.now w.head w.waiting × (length rest.old ≤ 64) × (length pending.old ≡ 64) }
+    requires { BitsHeld bits.now w.head w.waiting × (length rest.old + 1 ≤ N) × (N ≤ 1040) × (length pending.old ≡ 64) }
     ensures { EqualInto bits.now t a w (length rest.old) rest.new pending.new result }
 {
     let k = rest.len() + 1;
-    let mut scratch = zeros_80();
-    equal_in(bits, t, w, a, &mut scratch[..k], pending, rest)
-}
-
-// A pass over any rest.
-fn equal_long(
-    bits: &[bool; 4096],
-    t: TonePair,
-    w: Wave,
-    a: f32,
-    pending: &mut [f32],
-    rest: &mut [f32],
-) -> Wave
-    requires { BitsHeld bits.now w.head w.waiting × (length rest.old ≤ 1024) × (length pending.old ≡ 64) }
-    ensures { EqualInto bits.now t a w (length rest.old) rest.new pending.new result }
-{
-    let k = rest.len() + 1;
-    let mut scratch = zeros_1040();
+    let mut scratch: [f64; N] = filled(0.0);
     equal_in(bits, t, w, a, &mut scratch[..k], pending, rest)
 }
 
@@ -519,7 +446,8 @@ pub(crate) fn equal_pass(
     ensures { EqualInto bits.now t a w (length rest.old) rest.new pending.new result }
 {
     if rest.len() <= 64 {
-        return equal_short(bits, t, w, a, pending, rest);
+        equal_within::<80>(bits, t, w, a, pending, rest)
+    } else {
+        equal_within::<1040>(bits, t, w, a, pending, rest)
     }
-    equal_long(bits, t, w, a, pending, rest)
 }

@@ -35,9 +35,8 @@ impl Nco {
         ensures { result ≡ nco_set_freq self freq }
     {
         Nco {
-            phase: self.phase,
             inc: TAU * freq / self.sample_rate,
-            sample_rate: self.sample_rate,
+            ..self
         }
     }
 
@@ -46,21 +45,13 @@ impl Nco {
     {
         let value = sine(self.phase);
         let phase = turn(self.phase, self.inc);
-        let state = Nco {
-            phase,
-            inc: self.inc,
-            sample_rate: self.sample_rate,
-        };
+        let state = Nco { phase, ..self };
         Tone { state, value }
     }
 
     pub(crate) fn reset(self) -> Nco
         ensures { result ≡ nco_reset self }
     {
-        Nco {
-            phase: 0.0,
-            inc: self.inc,
-            sample_rate: self.sample_rate,
-        }
+        Nco { phase: 0.0, ..self }
     }
 }

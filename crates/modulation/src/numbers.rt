@@ -1,11 +1,11 @@
 // What waits, as it is shown number by number: in order, and 0.0 in the places behind the last.
-ghost use Rattle.std.specs.Prelude.{◌≡◌, map, replicate};
-ghost use Rattle.numeric.specs.F64.{zero64};
+ghost use Rattle.std.specs.Prelude.{◌≡◌, map};
 ghost use Rattle.modulation.specs.Bits.{most_bits, queued, BitsHeld};
 ghost use Rattle.modulation.specs.ModulatorRep.{pending_in, PendingHeld};
 ghost use Rattle.modulation.specs.Numbers.{places_for, mark_number};
 
 use crate::bits::place_after;
+use numeric::arrays::filled;
 use numeric::convert::widen;
 
 // 1.0 for mark, 0.0 for space.
@@ -15,30 +15,16 @@ pub(crate) fn mark_number(mark: bool) -> f64
     if mark { 1.0 } else { 0.0 }
 }
 
-fn no_bits() -> [f64; 4096]
-    ensures { result ≡ replicate most_bits zero64 }
-{
-    [0.0f64; 4096]
-}
-
-fn no_samples() -> [f64; 64]
-    ensures { result ≡ replicate 64 zero64 }
-{
-    [0.0f64; 64]
-}
-
 // The bits of a ring, oldest first.
 pub(crate) fn bit_places(bits: &[bool; 4096], head: usize, waiting: usize) -> [f64; 4096]
     requires { BitsHeld bits.now head waiting }
     ensures { result ≡ places_for most_bits (map mark_number (queued bits.now head waiting)) }
 {
-    let mut a = no_bits();
+    let mut a = filled(0.0);
     let mut at = head;
-    let mut i = 0;
-    while i < waiting {
+    for i in 0..waiting {
         a[i] = mark_number(bits[at]);
         at = place_after(at);
-        i += 1;
     }
     a
 }
@@ -48,12 +34,9 @@ pub(crate) fn sample_places(samples: &[f32; 64], from: usize, upto: usize) -> [f
     requires { PendingHeld samples.now from upto }
     ensures { result ≡ places_for 64 (pending_in samples.now from upto) }
 {
-    let n = upto - from;
-    let mut a = no_samples();
-    let mut i = 0;
-    while i < n {
+    let mut a = filled(0.0);
+    for i in 0..upto - from {
         a[i] = widen(samples[from + i]);
-        i += 1;
     }
     a
 }

@@ -1,18 +1,16 @@
 // The sender of a gauge that has no floats: the bits that wait, keyed as places of a table of sines, at 8,000 Hz. The phase and the symbol clock
 // are whole numbers and carry over from call to call, so blocks are read in order.
 ghost use Rattle.std.specs.Prelude.{◌≡◌, ◌+◌, ◌%◌, ◌≤◌, ◌<◌, length};
-ghost use Rattle.refusal.specs.Refusals.{acceptance_of};
-ghost use Rattle.modulation.specs.Requests.{write, idle_mark};
 ghost use Rattle.modulation.specs.Table.{places};
-ghost use Rattle.modulation.specs.TableTx.{hops_of, hop_of, begun, moved, sending, sent, fresh_table, table_queueing, table_requested};
-ghost use Rattle.modulation.specs.TableTx.{table_reading, table_read_of, table_pending};
-ghost use Rattle.modulation.specs.TableTxRep.{phase_of, Keyed, HopsHeld, Begins, table_of, TableSound, with_ring};
+ghost use Rattle.modulation.specs.TableTx.{hops_of, hop_of, begun, moved, sending, sent};
+ghost use Rattle.modulation.specs.Keying.{phase_of, Keyed, HopsHeld, Begins};
 
 use crate::bits::{ask_frames, ask_marks, take_bit};
 use crate::table::{entry, whole_turn};
-use crate::tx::{check, falses};
+use crate::tx::check;
 use bell103::Role;
-use refusal::{Acceptance, is_accepted};
+use numeric::arrays::filled;
+use refusal::Answered;
 
 // How many places the phase moves on after a sample of each tone: a fifth of its hertz.
 #[derive(Clone, Copy)]
@@ -41,6 +39,8 @@ pub struct TableTx {
     hops: Hops,
     bits: [bool; 4096],
     keying: Keying,
+    pub ghost hops_held: { HopsHeld hops },
+    pub ghost keyed: { Keyed bits keying },
 }
 
 fn hops_of(role: Role) -> Hops
@@ -73,6 +73,7 @@ fn begin(bits: &[bool; 4096], k: Keying) -> Keying
         return k;
     }
     let t = take_bit(bits, k.head, k.waiting);
+    // Field by field, here and below: `..k` would store the whole, and the next sample wait for it.
     Keying {
         head: t.head,
         waiting: t.waiting,
@@ -88,10 +89,7 @@ fn turned(at: usize) -> usize
     requires { at < 3200 }
     ensures { result ≡ at % places }
 {
-    if at < 1600 {
-        return at;
-    }
-    at - 1600
+    if at < 1600 { at } else { at - 1600 }
 }
 
 // Behind a sample: the place moved on by the tone in force.
@@ -129,26 +127,18 @@ fn fill(bits: &[bool; 4096], h: Hops, k: Keying, out: &mut [i32]) -> Keying
     keying
 }
 
-// What a request answers, and the sender after it.
-#[derive(Clone, Copy)]
-pub struct TableQueueing {
-    pub state: TableTx,
-    pub answer: Acceptance,
-}
-
-// What `read` answers, and the sender after it.
-#[derive(Clone, Copy)]
-pub struct TableReading {
-    pub state: TableTx,
-    pub answer: Acceptance,
-}
-
 impl TableTx {
+    ghost use Rattle.refusal.specs.Refusals.{reply_in};
+    ghost use Rattle.modulation.specs.Bits.{BitsHeld};
+    ghost use Rattle.modulation.specs.Requests.{write, idle_mark};
+    ghost use Rattle.modulation.specs.TableTx.{fresh_table, table_queueing, table_requested, table_reading, table_read_of, table_pending};
+    ghost use Rattle.modulation.specs.TableTxRep.{table_of, with_ring};
+
     pub fn new(role: Role) -> TableTx
-        ensures { (table_of result ≡ fresh_table role) × TableSound result }
+        ensures { table_of result ≡ fresh_table role }
     {
         let hops = hops_of(role);
-        let bits = falses();
+        let bits = filled(false);
         let keying = Keying {
             head: 0,
             waiting: 0,
@@ -161,72 +151,58 @@ impl TableTx {
     }
 
     // Queues the frames of these bytes, unless refused 33.
-    pub fn write(self, data: &[u8]) -> TableQueueing
-        requires { TableSound self }
-        ensures state_value { table_queueing (acceptance_of result.answer) (table_of result.state) ≡ table_requested (table_of self) (write «data».now) }
-        ensures table_sound { TableSound result.state }
+    pub fn write(self, data: &[u8]) -> Answered<TableTx, ()>
+        ensures state_value { table_queueing (reply_in result.answer) (table_of result.state) ≡ table_requested (table_of self) (write «data».now) }
     {
         let k = self.keying;
         let mut bits = self.bits;
         let asked = ask_frames(&mut bits, k.head, k.waiting, data);
         let answer = asked.answer;
         let state = self.with_bits(bits, asked.waiting);
-        TableQueueing { answer, state }
+        Answered { answer, state }
     }
 
     // Queues n bit periods of idle mark, unless refused 33.
-    pub fn write_idle_mark(self, n: usize) -> TableQueueing
-        requires { TableSound self }
-        ensures state_value { table_queueing (acceptance_of result.answer) (table_of result.state) ≡ table_requested (table_of self) (idle_mark n) }
-        ensures table_sound { TableSound result.state }
+    pub fn write_idle_mark(self, n: usize) -> Answered<TableTx, ()>
+        ensures state_value { table_queueing (reply_in result.answer) (table_of result.state) ≡ table_requested (table_of self) (idle_mark n) }
     {
         let k = self.keying;
         let mut bits = self.bits;
         let asked = ask_marks(&mut bits, k.head, k.waiting, n);
         let answer = asked.answer;
         let state = self.with_bits(bits, asked.waiting);
-        TableQueueing { answer, state }
+        Answered { answer, state }
     }
 
-    // The sender with this ring, in which so many bits wait.
-    fn with_bits(self, bits: [bool; 4096], waiting: usize) -> TableTx
-        ensures { result ≡ with_ring self bits waiting }
+    // As `Tx`'s: a trait for what lies around the ring would need as many lines as it saved, and laws for each of them.
+    #[tactic(auto, unfolding(crate::specs::TableTxRep::table_of))]
+    fn with_bits(mut self, bits: [bool; 4096], waiting: usize) -> TableTx
+        requires { BitsHeld bits self.keying.head waiting }
+        ensures { table_of result ≡ with_ring self bits waiting }
     {
-        let mut keying = self.keying;
-        keying.waiting = waiting;
-        let mut state = self;
-        state.bits = bits;
-        state.keying = keying;
-        state
+        self.bits = bits;
+        self.keying.waiting = waiting;
+        self
     }
 
     // Whether bits wait.
     pub fn pending(self) -> bool
         ensures { result ≡ table_pending (table_of self) }
     {
-        let k = self.keying;
-        0 < k.waiting
+        0 < self.keying.waiting
     }
 
     // Fills the slice whole with the next samples, holding mark when idle.
-    pub fn read(self, out: &mut [i32]) -> TableReading
-        requires { TableSound self }
-        ensures out_after { table_reading (acceptance_of result.answer) (table_of result.state) out.new ≡ table_read_of (table_of self) out.old }
-        ensures table_sound { TableSound result.state }
+    pub fn read(mut self, out: &mut [i32]) -> Answered<TableTx, ()>
+        ensures out_after { table_reading (reply_in result.answer) (table_of result.state) out.new ≡ table_read_of (table_of self) out.old }
     {
-        let k = self.keying;
-        let answer = check(out.len(), k.samples);
-        if !is_accepted(answer) {
-            return TableReading {
-                answer,
-                state: self,
-            };
+        let answer = check(out.len(), self.keying.samples);
+        if answer.is_ok() {
+            self.keying = fill(&self.bits, self.hops, self.keying, out);
         }
-        let bits = self.bits;
-        let hops = self.hops;
-        let keying = fill(&bits, hops, k, out);
-        let mut state = self;
-        state.keying = keying;
-        TableReading { answer, state }
+        Answered {
+            answer,
+            state: self,
+        }
     }
 }

@@ -1,5 +1,5 @@
 -- Each count in whole numbers is what the Rust works out in f64. Assumes nothing.
-use Rattle.std.proofs.Common.{◌≡◌, ℕ, ◌+◌, ◌/◌, ◌<◌, ◌≤◌, refl, ap, le_trans, le_refl, lt_of_le_of_lt, mul-le-mul, arith, lit<, lit≤}
+use Rattle.std.proofs.Common.{◌≡◌, ℕ, ◌+◌, ◌<◌, ◌≤◌, refl, ap, le_trans, le_refl, lt_of_le_of_lt, mul-le-mul, arith, lit<, lit≤}
 use lib.Ieee.{div, of_int}
 use Rattle.numeric.specs.F64.{◌⊘◌, whole}
 use Rattle.numeric.specs.Rounding.{round_usize}

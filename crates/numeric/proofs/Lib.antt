@@ -15,7 +15,6 @@ pub mod Examples
 -- What the proofs of this crate alone cite.
 mod Bits
 mod Narrow
-mod Quotients
 mod RootLaws
 mod SineLaws
 mod Taps

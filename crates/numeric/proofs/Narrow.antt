@@ -850,28 +850,3 @@ cut-casts x h p =
     and_i (fits binary32 v) (not (is_nan v))
     (subst (λ (v : Float). T (fits binary32 v)) (sym (cut-law x h p)) (narrowed-fits x))
     (subst (λ (b : Bool). T (not b)) (nan_bits_is binary64 (cut (to_bits binary64 x))) (cut-number x h p))
-
--- ---- four of them
-pub no-four : (r p q : Bool) → r ≡ p → not r ≡ true → false ≡ (p && q)
-no-four r true q e h = absurd (false≢true (subst (λ (b : Bool). not b ≡ true) e h))
-no-four r false q e h = refl
-
-pub yes-four : (r p q s : Bool) → r ≡ p → not r ≡ false → s ≡ q → s ≡ (p && q)
-yes-four r true q s e h i = i
-yes-four r false q s e h i = absurd (true≢false (subst (λ (b : Bool). not b ≡ false) e h))
-
-pub record FourPlain (x y z w : Float) : Type 0 where
-  pub first : plain x ≡ true
-  pub second : plain y ≡ true
-  pub third : plain z ≡ true
-  pub fourth : plain w ≡ true
-
-pub four-plain : (x y z w : Float) (r : Bool) → r ≡ (plain x && (plain y && (plain z && plain w))) → r ≡ true → FourPlain x y z w
-four-plain x y z w r e h = go (plain x) (plain y) (plain z) (plain w) refl refl refl refl (sym e ∙ h)
-  where
-    go : (a b c d : Bool) → plain x ≡ a → plain y ≡ b → plain z ≡ c → plain w ≡ d → (a && (b && (c && d))) ≡ true → FourPlain x y z w
-    go true true true true p q s t h = record { first = p; second = q; third = s; fourth = t }
-    go true true true false p q s t h = absurd (false≢true h)
-    go true true false d p q s t h = absurd (false≢true h)
-    go true false c d p q s t h = absurd (false≢true h)
-    go false b c d p q s t h = absurd (false≢true h)

@@ -1,11 +1,11 @@
 -- The sum of two squares has no minus sign, so half its bits and 1FF8000000000000 are the bits of a number; its root where it is above 0.0,
 -- and where it is a NaN. Assumes nothing.
-use Rattle.std.proofs.Common.{◌≡◌, ℕ, ◌+◌, ◌*◌, ◌/◌, ◌^◌, ◌<◌, Bool, true, false, not, ◌&&◌, T, eqb, ltb, sym, refl, ap, ◌∙◌, subst, true≢false, arith, ltb-true, ne_eqb}
+use Rattle.std.proofs.Common.{◌≡◌, ℕ, suc, ◌+◌, ◌-◌, ◌≤◌, ◌*◌, ◌/◌, ◌^◌, ◌<◌, Bool, true, false, not, ◌&&◌, T, eqb, ltb, sym, refl, ap, ◌∙◌, subst, true≢false, arith, ltb-true, ne_eqb}
 use mathlib.Core.Bool.{false≢true}
 use lib.Ieee.{Float, nan, inf, fin, Format, binary64, nan_bits, add, mul, ne, lt, eq, sum, up, down, of_bits, to_bits, div}
 use lib.Ieee.Compare.{differs_from_itself}
 use lib.Ieee.Fits.{add-fits}
-use Rattle.numeric.specs.F64.{◌⊗◌, ◌<ᶠ◌, ◌=ᶠ◌, bits, zero64}
+use Rattle.numeric.specs.F64.{◌⊕◌, ◌⊗◌, ◌⊘◌, half64, ◌<ᶠ◌, ◌=ᶠ◌, bits, zero64}
 use Rattle.numeric.proofs.Whole.{no_minus, round-no_minus, not-nan}
 use Rattle.numeric.specs.Root.{squares, guess, improved, root_of}
 use Rattle.numeric.proofs.Bits.{number-bits, bits-lt}
@@ -73,6 +73,22 @@ module _ (a b : Float) (h : zero64 <ᶠ squares a b ≡ true) where
   pub root-above : (g : Float) → g ≡ guess (squares a b) → improved 5 (squares a b) g ≡ root_of a b
   unfolding root_of
   root-above g e = rw (e, above-not-zero (squares a b) h)
+
+-- ---- step by step
+module _ (i : ℕ) (v g : Float) where
+  pub improved-more : i < 5 → improved (5 - (i + 1)) v (half64 ⊗ (g ⊕ v ⊘ g)) ≡ improved (5 - i) v g
+  unfolding improved
+  improved-more h = rw next
+    where
+      next : 5 - i ≡ suc (5 - (i + 1))
+      next = omega arith
+
+  pub improved-end : 5 ≤ i → improved (5 - i) v g ≡ g
+  unfolding improved
+  improved-end h = rw none
+    where
+      none : 5 - i ≡ 0
+      none = omega arith
 
 -- The bits of a NaN are of no matter: the first step gives a NaN again.
 pub improved-nan : improved 5 nan (guess nan) ≡ nan

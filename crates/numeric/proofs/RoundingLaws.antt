@@ -2,7 +2,7 @@
 -- rounded, is the division in whole numbers so rounded, where product and divisor are below 2 ^ 50. Assumes nothing.
 use Rattle.std.proofs.Common.{◌≡◌, ℕ, zero, suc, ◌+◌, ◌-◌, ◌*◌, ◌/◌, ◌^◌, ◌<◌, ◌≤◌, min, true, false, T, sym, refl, ap, ◌∙◌, zero-le, le_trans, le_of_eq, le_refl, lt_of_lt_of_le, lt_of_le_of_lt, le_of_lt, mul-le-mul_right, zero-lt-suc, mul_assoc, suc-mul, add-mul, lt_of_mul-lt-mul_right, mul-le-mul_left, mul-lt-mul_of_pos_right, mul-pos, one-mul, zero-mul, mul-one, mul_right_comm, div-mul-le_self, mul_left_comm, arith, lit≤, pow_pos}
 use native.Mathlib.Nat.{div-eq_of_lt-le, lt-div-mul-add, pow-succ'}
-use lib.Ieee.{Float, nan, inf, fin, binary64, up, size, round}
+use lib.Ieee.{Float, nan, inf, fin, binary64, size, round}
 use lib.Ieee.Digits.{size-lt, size_reaches, size-le}
 use lib.Ieee.Positive.{num, den, den_pos}
 use Rattle.numeric.specs.F64.{◌⊗◌, ◌⊘◌, whole}

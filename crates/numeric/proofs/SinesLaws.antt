@@ -5,7 +5,7 @@ use Rattle.numeric.specs.F64.{◌⊖◌, ◌<ᶠ◌, ◌≤ᶠ◌, zero64, tau, 
 use Rattle.std.specs.Prelude.{if◌then◌else◌}
 use Rattle.numeric.specs.Sine.{reduced, folded, series, half_turn, sine_of}
 use Rattle.numeric.proofs.SineLaws.{reduced-stop, reduced-more}
-use Rattle.numeric.specs.Sines.{wrapped, lowered, signed, beyond, within_turn}
+use Rattle.numeric.specs.Sines.{wrapped, lowered, signed, beyond, within_turn, EachOf}
 
 -- ---- it is the sine
 half-turn : (y : Float) → half_turn y ≡ within_turn y
@@ -48,6 +48,30 @@ unwrapped x w b eb e ew =
     let n = neither (x <ᶠ zero64) (tau ≤ᶠ x) (sym eb ∙ e) in
     let y : x ≡ wrapped x = rw n.1 refl in
     within-is x x w b y eb e ew
+
+-- none of four is beyond its turn
+pub record Inside (x a y b z c w d : Float) : Type 0 where
+  pub first : beyond x a ≡ false
+  pub second : beyond y b ≡ false
+  pub third : beyond z c ≡ false
+  pub fourth : beyond w d ≡ false
+
+pub inside : {x a y b z c w d : Float} {t : Bool} → t ≡ (beyond x a || (beyond y b || (beyond z c || beyond w d))) → t ≡ false → Inside x a y b z c w d
+inside {x} {a} {y} {b} {z} {c} {w} {d} et e =
+    let n1 = neither (beyond x a) (beyond y b || (beyond z c || beyond w d)) (sym et ∙ e) in
+    let n2 = neither (beyond y b) (beyond z c || beyond w d) n1.1 in
+    let n3 = neither (beyond z c) (beyond w d) n2.1 in
+    record { first = n1.0; second = n2.0; third = n3.0; fourth = n3.1 }
+
+-- .. as they come
+pub inside-sines : {x y z w p q r s : Float} → Inside x x y y z z w w → EachOf within_turn x y z w p q r s → EachOf sine_of x y z w p q r s
+inside-sines {x} {y} {z} {w} i h =
+    record {
+      first = unwrapped x _ _ refl i.first h.first;
+      second = unwrapped y _ _ refl i.second h.second;
+      third = unwrapped z _ _ refl i.third h.third;
+      fourth = unwrapped w _ _ refl i.fourth h.fourth;
+    }
 
 -- step by step: y lowered, folded, its series, and that with y's sign
 pub steps-are : (y z f v w : Float) → z ≡ lowered y → f ≡ folded z → v ≡ series f → w ≡ signed y v → w ≡ within_turn y

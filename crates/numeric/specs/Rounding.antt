@@ -1,8 +1,7 @@
 -- Rust's `round(x) as usize` and `ceil(x) as usize`, on any f64. Assumes nothing.
-use Rattle.std.specs.Prelude.{ℕ, zero, ◌+◌, ◌-◌, ◌*◌, ◌/◌, ◌^◌, min, Float}
+use Rattle.std.specs.Prelude.{ℕ, ◌+◌, ◌-◌, ◌*◌, ◌/◌, ◌^◌, min, Float}
 use Rattle.std.specs.Float.{nan, inf, fin}
-use Rattle.std.specs.Float.Ieee.{up, down, round}
-use Rattle.numeric.specs.F64.{whole}
+use Rattle.std.specs.Float.Ieee.{up, down}
 use Rattle.std.specs.Prelude.{if◌then◌else◌}
 
 -- round(x) as usize. "Round: half away from zero"; a NaN gives 0, a negative number 0, what is too large the largest usize

@@ -1,5 +1,5 @@
 -- Document 01's sine and cosine, in the place of the library's. Assumes nothing.
-use Rattle.std.specs.Prelude.{ℕ, zero, suc, ◌-◌, ◌<◌, List, [], ◌∷◌, Float}
+use Rattle.std.specs.Prelude.{ℕ, zero, suc, List, [], ◌∷◌, Float}
 use Rattle.std.specs.Float.Ieee.{neg}
 use Rattle.numeric.specs.F64.{◌⊕◌, ◌⊖◌, ◌⊗◌, ◌⊘◌, ◌<ᶠ◌, ◌≤ᶠ◌, f64, whole, zero64, one64, tau, pi}
 use Rattle.std.specs.Prelude.{if◌then◌else◌}

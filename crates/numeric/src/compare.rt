@@ -2,7 +2,7 @@
 ghost use Rattle.std.specs.Prelude.{◌≡◌};
 ghost use Rattle.numeric.specs.F64.{larger, magnitude};
 
-// The first unless the second is greater.
+// The first unless the second is greater: `a.max(b)` leaves open which of 0.0 and -0.0 it gives, and passes over a NaN.
 pub fn maximum(a: f64, b: f64) -> f64
     ensures { result ≡ larger a b }
 {
@@ -12,12 +12,5 @@ pub fn maximum(a: f64, b: f64) -> f64
 pub fn absolute(x: f64) -> f64
     ensures { result ≡ magnitude x }
 {
-    if x < 0.0 {
-        return -x;
-    }
-    // -0.0 is equal to 0.0 and has a sign
-    if x == 0.0 {
-        return 0.0;
-    }
-    x
+    x.abs()
 }

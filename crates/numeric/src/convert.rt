@@ -57,12 +57,12 @@ fn kept_digits(b: u64) -> u64
 }
 
 // An f32's bits for an f64's, the signs off.
+#[tactic(auto, unfolding(crate::specs::Patterns::narrow_bits))]
 fn narrow_bits(b: u64) -> u64
     requires { b < 2 ^ 63 }
     ensures { result ≡ narrow_bits b }
 {
-    let q = kept_digits(b);
-    if q < 0x7F80_0000 { q } else { 0x7F80_0000 }
+    kept_digits(b).min(0x7F80_0000)
 }
 
 // The nearest f32, at a tie the even one. No branch on the sign, which in a tone changes too often to be foreseen.
@@ -96,10 +96,7 @@ fn is_plain(x: f64) -> bool
         return false;
     }
     let b = f64::to_bits(x) % 0x8000_0000_0000_0000;
-    if 0x3810_0000_0000_0000 <= b {
-        return b < 0x47E0_0000_0000_0000;
-    }
-    false
+    0x3810_0000_0000_0000 <= b && b < 0x47E0_0000_0000_0000
 }
 
 // `narrow` of such a number: its bits are rounded to those of an f32, taken as an f64, and the cast is exact.
@@ -116,16 +113,7 @@ fn narrow_plain(x: f64) -> f32
 fn all_plain(x: f64, y: f64, z: f64, w: f64) -> bool
     ensures { result ≡ (plain x && (plain y && (plain z && plain w))) }
 {
-    if !is_plain(x) {
-        return false;
-    }
-    if !is_plain(y) {
-        return false;
-    }
-    if !is_plain(z) {
-        return false;
-    }
-    is_plain(w)
+    is_plain(x) && is_plain(y) && is_plain(z) && is_plain(w)
 }
 
 // The nearest f32 of each. Samples of a tone are plain but for a few, and with no branch between them four are cast together.
@@ -154,12 +142,12 @@ pub fn narrow_four(x: f64, y: f64, z: f64, w: f64) -> FourNarrowed
 pub fn in_range(x: f32) -> bool
     ensures { result ≡ in_range x }
 {
-    if x >= -1.0 { x <= 1.0 } else { false }
+    x >= -1.0 && x <= 1.0
 }
 
 // The same of an f64.
 pub fn wide_in_range(sample: f64) -> bool
     ensures { result ≡ in_range sample }
 {
-    if sample >= -1.0 { sample <= 1.0 } else { false }
+    sample >= -1.0 && sample <= 1.0
 }

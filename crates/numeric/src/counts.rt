@@ -22,7 +22,5 @@ pub fn ceiling(p: u64, c: u64) -> u64
     if c == 0 {
         return 0;
     }
-    let q = p / c;
-    let r = p % c;
-    if r == 0 { q } else { q + 1 }
+    p.div_ceil(c)
 }

@@ -5,16 +5,12 @@ ghost use Rattle.std.specs.Prelude.{◌≡◌, ◌+◌, ◌-◌, ◌<◌, ◌≤
 pub fn smaller(a: usize, b: usize) -> usize
     ensures { (result ≡ min a b) × (result ≤ a) × (result ≤ b) × (result < a → b ≤ result) }
 {
-    if a < b { a } else { b }
+    a.min(b)
 }
 
 // The end of the next elements, or of all of them; `from` itself where that is behind all of them.
 pub fn part_end(from: usize, elements: u32, all: usize) -> usize
     ensures { (result ≡ from + min elements (all - from)) × (from ≤ result) × (from ≤ all → result ≤ all) }
 {
-    if all < from {
-        return from;
-    }
-    let n = elements as usize;
-    if n < all - from { from + n } else { all }
+    from + (elements as usize).min(all.saturating_sub(from))
 }

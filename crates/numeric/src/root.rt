@@ -24,11 +24,9 @@ pub fn root(a: f64, b: f64) -> f64
         return v;
     }
     let mut g = first_guess(v);
-    g = 0.5 * (g + v / g);
-    g = 0.5 * (g + v / g);
-    g = 0.5 * (g + v / g);
-    g = 0.5 * (g + v / g);
-    g = 0.5 * (g + v / g);
+    for i in 0..5usize {
+        g = 0.5 * (g + v / g);
+    }
     g
 }
 
@@ -45,25 +43,20 @@ pub fn roots(a: f64, b: f64, c: f64, d: f64) -> RootPair
 {
     let u = a * a + b * b;
     let w = c * c + d * d;
-    if u > 0.0 {
-        if w > 0.0 {
-            let mut g = first_guess(u);
-            let mut h = first_guess(w);
+    if u > 0.0 && w > 0.0 {
+        let mut g = first_guess(u);
+        let mut h = first_guess(w);
+        for i in 0..5usize {
             g = 0.5 * (g + u / g);
             h = 0.5 * (h + w / h);
-            g = 0.5 * (g + u / g);
-            h = 0.5 * (h + w / h);
-            g = 0.5 * (g + u / g);
-            h = 0.5 * (h + w / h);
-            g = 0.5 * (g + u / g);
-            h = 0.5 * (h + w / h);
-            return RootPair {
-                first: 0.5 * (g + u / g),
-                second: 0.5 * (h + w / h),
-            };
         }
+        return RootPair {
+            first: g,
+            second: h,
+        };
     }
-    let first = root(a, b);
-    let second = root(c, d);
-    RootPair { first, second }
+    RootPair {
+        first: root(a, b),
+        second: root(c, d),
+    }
 }

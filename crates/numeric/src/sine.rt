@@ -1,5 +1,6 @@
 // Sine and cosine, in the place of the library's.
-ghost use Rattle.std.specs.Prelude.{◌≡◌};
+ghost use Rattle.std.specs.Prelude.{◌≡◌, if◌then◌else◌};
+ghost use Rattle.numeric.specs.F64.{◌⊖◌, ◌≤ᶠ◌};
 ghost use Rattle.numeric.specs.Sine.{reduced, folded, series, half_turn, sine_of, cosine_of};
 
 pub const TAU: f64 = 6.283185307179586;
@@ -14,11 +15,9 @@ fn reduce(x: f64) -> f64
     ensures { result ≡ reduced 64 x }
 {
     let mut y = x;
-    let mut left = 64usize;
-    while 0 < left {
+    for i in 0..64usize {
         if y >= TAU {
-            y = y - TAU;
-            left -= 1;
+            y -= TAU;
         } else {
             return y;
         }
@@ -26,7 +25,15 @@ fn reduce(x: f64) -> f64
     if y >= TAU { 0.0 } else { y }
 }
 
+// x, less the period where it is one or more.
+pub(crate) fn within(x: f64, period: f64) -> f64
+    ensures { result ≡ (if period ≤ᶠ x then x ⊖ period else x) }
+{
+    if x >= period { x - period } else { x }
+}
+
 // The x of the first quarter that has the same sine.
+#[tactic(auto, unfolding(crate::specs::Sine::folded))]
 pub(crate) fn fold(x: f64) -> f64
     ensures { result ≡ folded x }
 {
@@ -49,6 +56,7 @@ fn series_of(x: f64) -> f64
     x * h
 }
 
+#[tactic(auto, unfolding(crate::specs::Sine::half_turn))]
 fn half_turn(x: f64) -> f64
     ensures { result ≡ half_turn x }
 {
@@ -59,6 +67,7 @@ fn half_turn(x: f64) -> f64
     }
 }
 
+#[tactic(auto, unfolding(crate::specs::Sine::sine_of))]
 pub fn sine(x: f64) -> f64
     ensures { result ≡ sine_of x }
 {
@@ -69,6 +78,7 @@ pub fn sine(x: f64) -> f64
     }
 }
 
+#[tactic(auto, unfolding(crate::specs::Sine::cosine_of))]
 pub fn cosine(x: f64) -> f64
     ensures { result ≡ cosine_of x }
 {

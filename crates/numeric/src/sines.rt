@@ -1,10 +1,10 @@
 // Four sines for the receiver, eight for the sender, and the steps of one. A series is seven divisions, each of which waits for the one before it:
 // four or eight go side by side.
-ghost use Rattle.std.specs.Prelude.{◌≡◌};
+ghost use Rattle.std.specs.Prelude.{◌≡◌, ◌||◌};
 ghost use Rattle.numeric.specs.Sine.{series, sine_of};
-ghost use Rattle.numeric.specs.Sines.{wrapped, lowered, signed, beyond, within_turn, EachOf, EightOf};
+ghost use Rattle.numeric.specs.Sines.{signed, beyond, within_turn, EachOf, EightOf};
 
-use crate::sine::{PI, TAU, fold, sine};
+use crate::sine::{PI, TAU, fold, sine, within};
 
 #[derive(Clone, Copy)]
 pub struct Pair {
@@ -32,18 +32,7 @@ pub struct Eight {
     pub eighth: f64,
 }
 
-fn wrap(x: f64) -> f64
-    ensures { result ≡ wrapped x }
-{
-    if x >= TAU { x - TAU } else { x }
-}
-
-fn lower(x: f64) -> f64
-    ensures { result ≡ lowered x }
-{
-    if x >= PI { x - PI } else { x }
-}
-
+#[tactic(auto, unfolding(crate::specs::Sines::signed))]
 fn sign(x: f64, v: f64) -> f64
     ensures { result ≡ signed x v }
 {
@@ -51,13 +40,18 @@ fn sign(x: f64, v: f64) -> f64
 }
 
 // Whether one turn less is not all that x needs to be within one turn, where y is x wrapped.
+#[tactic(auto, unfolding(crate::specs::Sines::beyond))]
 fn is_beyond(x: f64, y: f64) -> bool
     ensures { result ≡ beyond x y }
 {
-    if x < 0.0 {
-        return true;
-    }
-    y >= TAU
+    x < 0.0 || y >= TAU
+}
+
+// The same of one of four: a is x wrapped, b is y wrapped, c is z, d is w.
+fn any_beyond(x: f64, a: f64, y: f64, b: f64, z: f64, c: f64, w: f64, d: f64) -> bool
+    ensures { result ≡ (beyond x a || (beyond y b || (beyond z c || beyond w d))) }
+{
+    is_beyond(x, a) || is_beyond(y, b) || is_beyond(z, c) || is_beyond(w, d)
 }
 
 // The series of x, and that of y.
@@ -99,11 +93,12 @@ fn each_sine(x: f64, y: f64, z: f64, w: f64) -> Four
 }
 
 // The sine of each, all within one turn.
+#[tactic(auto, unfolding(crate::specs::Sines::lowered))]
 fn sines_within(a: f64, b: f64, c: f64, d: f64) -> Four
     ensures { EachOf within_turn a b c d result.first result.second result.third result.fourth }
 {
-    let p = series_pair(fold(lower(a)), fold(lower(b)));
-    let q = series_pair(fold(lower(c)), fold(lower(d)));
+    let p = series_pair(fold(within(a, PI)), fold(within(b, PI)));
+    let q = series_pair(fold(within(c, PI)), fold(within(d, PI)));
     Four {
         first: sign(a, p.first),
         second: sign(b, p.second),
@@ -116,51 +111,54 @@ fn sines_within(a: f64, b: f64, c: f64, d: f64) -> Four
 pub fn sines(x: f64, y: f64, z: f64, w: f64) -> Four
     ensures { EachOf sine_of x y z w result.first result.second result.third result.fourth }
 {
-    let a = wrap(x);
-    let b = wrap(y);
-    let c = wrap(z);
-    let d = wrap(w);
-    if is_beyond(x, a) {
-        return each_sine(x, y, z, w);
+    let a = within(x, TAU);
+    let b = within(y, TAU);
+    let c = within(z, TAU);
+    let d = within(w, TAU);
+    if any_beyond(x, a, y, b, z, c, w, d) {
+        each_sine(x, y, z, w)
+    } else {
+        sines_within(a, b, c, d)
     }
-    if is_beyond(y, b) {
-        return each_sine(x, y, z, w);
-    }
-    if is_beyond(z, c) {
-        return each_sine(x, y, z, w);
-    }
-    if is_beyond(w, d) {
-        return each_sine(x, y, z, w);
-    }
-    sines_within(a, b, c, d)
 }
 
 // ---- eight
 
-// The sine of each.
-fn each_of_eight(a: f64, b: f64, c: f64, d: f64, e: f64, f: f64, g: f64, h: f64) -> Eight
-    ensures { EightOf sine_of a b c d e f g h result }
+// Two times four.
+fn both(p: Four, q: Four) -> Eight
+    ensures { result
+        ≡ record {
+          first = p.first;
+          second = p.second;
+          third = p.third;
+          fourth = p.fourth;
+          fifth = q.first;
+          sixth = q.second;
+          seventh = q.third;
+          eighth = q.fourth;
+        } }
 {
     Eight {
-        first: sine(a),
-        second: sine(b),
-        third: sine(c),
-        fourth: sine(d),
-        fifth: sine(e),
-        sixth: sine(f),
-        seventh: sine(g),
-        eighth: sine(h),
+        first: p.first,
+        second: p.second,
+        third: p.third,
+        fourth: p.fourth,
+        fifth: q.first,
+        sixth: q.second,
+        seventh: q.third,
+        eighth: q.fourth,
     }
 }
 
-// The sine of each, all within one turn.
+// The sine of each, all within one turn. Two times `sines_within`, written out: as two calls it takes nearly twice as long.
+#[tactic(auto, unfolding(crate::specs::Sines::lowered))]
 fn eight_within(a: f64, b: f64, c: f64, d: f64, e: f64, f: f64, g: f64, h: f64) -> Eight
     ensures { EightOf within_turn a b c d e f g h result }
 {
-    let p = series_pair(fold(lower(a)), fold(lower(b)));
-    let q = series_pair(fold(lower(c)), fold(lower(d)));
-    let u = series_pair(fold(lower(e)), fold(lower(f)));
-    let v = series_pair(fold(lower(g)), fold(lower(h)));
+    let p = series_pair(fold(within(a, PI)), fold(within(b, PI)));
+    let q = series_pair(fold(within(c, PI)), fold(within(d, PI)));
+    let u = series_pair(fold(within(e, PI)), fold(within(f, PI)));
+    let v = series_pair(fold(within(g, PI)), fold(within(h, PI)));
     Eight {
         first: sign(a, p.first),
         second: sign(b, p.second),
@@ -177,29 +175,9 @@ fn eight_within(a: f64, b: f64, c: f64, d: f64, e: f64, f: f64, g: f64, h: f64) 
 pub fn sines_eight(a: f64, b: f64, c: f64, d: f64, e: f64, f: f64, g: f64, h: f64) -> Eight
     ensures { EightOf sine_of a b c d e f g h result }
 {
-    if is_beyond(a, a) {
-        return each_of_eight(a, b, c, d, e, f, g, h);
+    if any_beyond(a, a, b, b, c, c, d, d) || any_beyond(e, e, f, f, g, g, h, h) {
+        both(each_sine(a, b, c, d), each_sine(e, f, g, h))
+    } else {
+        eight_within(a, b, c, d, e, f, g, h)
     }
-    if is_beyond(b, b) {
-        return each_of_eight(a, b, c, d, e, f, g, h);
-    }
-    if is_beyond(c, c) {
-        return each_of_eight(a, b, c, d, e, f, g, h);
-    }
-    if is_beyond(d, d) {
-        return each_of_eight(a, b, c, d, e, f, g, h);
-    }
-    if is_beyond(e, e) {
-        return each_of_eight(a, b, c, d, e, f, g, h);
-    }
-    if is_beyond(f, f) {
-        return each_of_eight(a, b, c, d, e, f, g, h);
-    }
-    if is_beyond(g, g) {
-        return each_of_eight(a, b, c, d, e, f, g, h);
-    }
-    if is_beyond(h, h) {
-        return each_of_eight(a, b, c, d, e, f, g, h);
-    }
-    eight_within(a, b, c, d, e, f, g, h)
 }

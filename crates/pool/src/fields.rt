@@ -1,89 +1,72 @@
 // The fields of a line: numbers as the programs print them.
-ghost use Rattle.std.specs.Prelude.{◌≡◌, ◌+◌, ◌≤◌, min, length};
-ghost use Rattle.pool.specs.Fields.{place_of, number_of, above, below, level_in};
+ghost use Rattle.std.specs.Prelude.{◌≡◌, ◌≤◌, length, IfSome};
+ghost use Rattle.console.specs.Words.{or_past};
+ghost use Rattle.pool.specs.Fields.{place_of, before, behind, number_of, above, below, level_in};
 
 use console::decimal_up_to;
-
-// A level, if the field says one.
-#[derive(Drop)]
-pub enum Level {
-    Centimetres(i16),
-    Wrong,
-}
 
 // The place of the first byte c; the length where there is none.
 pub fn place_of(c: u8, s: &[u8]) -> usize
     ensures { (result ≡ place_of c s.now) × (result ≤ length s.now) }
 {
-    let mut i = 0;
-    while i < s.len() {
+    for i in 0..s.len() {
         if s[i] == c {
             return i;
         }
-        i += 1;
     }
-    i
+    s.len()
 }
 
-// Where that begins which stands behind the place n; the end where nothing does.
-pub fn from_behind(n: usize, s: &[u8]) -> usize
-    requires { n ≤ length s.now }
-    ensures { result ≡ min (n + 1) (length s.now) }
+// What stands before the first byte c, and what stands behind it.
+#[tactic(auto, unfolding(crate::specs::Fields::before, crate::specs::Fields::behind))]
+pub fn cut(c: u8, s: &[u8]) -> (&[u8], &[u8])
+    ensures { (result.0.now ≡ before c s.now) × (result.1.now ≡ behind c s.now) }
 {
-    if n < s.len() { n + 1 } else { n }
+    let n = place_of(c, s);
+    let from = if n < s.len() { n + 1 } else { n };
+    (&s[..n], &s[from..])
 }
 
-// The number that a field says; one past the most where it says none up to the most.
-pub fn number_of(most: u32, field: &[u8]) -> u64
-    ensures { result ≡ number_of most field.now }
+// The number that a field says, where it says one up to the most.
+#[tactic(auto, unfolding(crate::specs::Fields::number_of))]
+pub fn number_of(most: u32, field: &[u8]) -> Option<u32>
+    ensures value { or_past most result ≡ number_of most field.now }
+    ensures within { IfSome result (λ n. n ≤ most) }
 {
-    let none = most as u64 + 1;
-    let n = field.len();
-    if n == 0 {
-        return none;
+    match field {
+        [] | [b'0', _, ..] => None,
+        _ => decimal_up_to(most, field),
     }
-    if n == 1 {
-        return decimal_up_to(most, field);
-    }
-    if field[0] == b'0' {
-        return none;
-    }
-    decimal_up_to(most, field)
 }
 
 // A level from zero up.
-fn level_above(n: u64) -> Level
-    ensures { result ≡ above n }
+#[tactic(auto, unfolding(crate::specs::Fields::above))]
+fn level_above(n: Option<u32>) -> Option<i16>
+    requires { IfSome n (λ n. n ≤ 32767) }
+    ensures { result ≡ above (or_past 32767 n) }
 {
-    if 32767 < n {
-        return Level::Wrong;
-    }
-    Level::Centimetres(n as i16)
+    n.map(|n| n as i16)
 }
 
 // A level below zero, of its number without the sign.
-fn level_below(n: u64) -> Level
-    ensures { result ≡ below n }
+#[tactic(auto, unfolding(crate::specs::Fields::below))]
+fn level_below(n: Option<u32>) -> Option<i16>
+    requires { IfSome n (λ n. n ≤ 32767) }
+    ensures { result ≡ below (or_past 32767 n) }
 {
-    if n == 0 {
-        return Level::Wrong;
+    match n? {
+        0 => None,
+        n => Some(-(n as i16)),
     }
-    if 32767 < n {
-        return Level::Wrong;
-    }
-    let k = (n - 1) as i16;
-    Level::Centimetres(-1 - k)
 }
 
 // The level that a field says.
-pub fn level_in(field: &[u8]) -> Level
+#[tactic(auto, unfolding(crate::specs::Fields::level_in))]
+pub fn level_in(field: &[u8]) -> Option<i16>
     ensures { result ≡ level_in field.now }
 {
-    if field.len() == 0 {
-        return Level::Wrong;
+    match field {
+        [b'-', size @ ..] => level_below(number_of(32767, size)),
+        _ => level_above(number_of(32767, field)),
     }
-    if field[0] == b'-' {
-        return level_below(number_of(32767, &field[1..]));
-    }
-    level_above(number_of(32767, field))
 }

@@ -8,10 +8,9 @@
 mod fields;
 mod lines;
 
-use lines::Gauges;
-use pooling::Pooled;
+use refusal::Refusal;
 use std::io::Read;
-use tide::Shown;
+use tide::Reading;
 
 // What failed, in one line on standard error.
 fn complain_of_text() {
@@ -22,19 +21,14 @@ fn complain_of_text() {
 }
 
 // What three gauges show together.
-fn print_answer(answer: Pooled) -> bool {
+fn print_answer(answer: Result<Reading, Refusal>) -> bool {
     match answer {
-        Pooled::Given(reading) => console::print_pooled(reading),
-        Pooled::Refused(why) => {
-            if !io::print_decimal(1, why.number() as u64) {
-                return false;
-            }
-            io::write_all(1, b"\n")
-        }
+        Ok(reading) => console::print_pooled(reading),
+        Err(why) => { io::print_decimal(1, u32::from(why) as u64) && io::write_all(1, b"\n") }
     }
 }
 
-fn tell(a: Shown, b: Shown, c: Shown) {
+fn tell(a: Option<Reading>, b: Option<Reading>, c: Option<Reading>) {
     if !print_answer(pooling::pool(a, b, c)) {
         io::write_all(2, b"pool: standard output cannot be written\n");
     }
@@ -59,10 +53,9 @@ fn main(rt: HostRuntime) {
     let mut text = [0u8; 128];
     let n = io::read_full(0, &mut text);
     if at_end(&mut rt.stdin()) {
-        let said = lines::gauges_of(&text[..n]);
-        match said {
-            Gauges::Three { a, b, c } => tell(a, b, c),
-            Gauges::Wrong => complain_of_text(),
+        match lines::gauges_of(&text[..n]) {
+            Some((a, b, c)) => tell(a, b, c),
+            None => complain_of_text(),
         }
     }
 }

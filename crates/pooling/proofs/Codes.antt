@@ -1,26 +1,12 @@
--- What the proofs of the functions cite: levels as the code holds them, and what is kept gauge by gauge. Assumes nothing.
-use Prim.Native.Nat.{ℕ, ◌<◌, max}
-use mathlib.Core.Path.{◌≡◌, refl, sym, ap, ◌∙◌}
+-- What the proof of `pool` cites: what is kept gauge by gauge. Assumes nothing.
+use Prim.Native.Nat.{ℕ, max}
+use mathlib.Core.Path.{◌≡◌, refl, ap}
 use mathlib.Core.Bool.{Bool, true, false}
-use mathlib.Core.List.{List, [], ◌∷◌, ◌++◌, append_assoc}
+use mathlib.Core.List.{List, [], ◌∷◌, ◌++◌}
 use native.Mathlib.Omega.{arith}
-use lib.Dec.{ltb}
-use lib.IntN.{ℤ}
-use lib.Signed.{lt_z, mag}
-use mir.Syntax.{w16}
-use mir.Val.{to_z, of_z, SFits}
-use mir.ValLaws.{to_z-of_z}
 use Rattle.std.specs.Prelude.{if◌then◌else◌}
 use Rattle.tide.specs.Judge.{Reading, Shown}
-use Rattle.pooling.specs.Pool.{there, readings, newest, too_old, kept_of, kept, pooled, pool_of}
-
--- a level of sixteen bits, read back
-pub back : (x : ℤ) → mag x < 32768 → to_z w16 (of_z w16 x) ≡ x
-back x f = to_z-of_z w16 x (record { sfits = f })
-
--- a test of two of them
-pub tested : {x y : ℤ} {t : Bool} → SFits w16 x → SFits w16 y → lt_z (to_z w16 (of_z w16 y)) (to_z w16 (of_z w16 x)) ≡ t → lt_z y x ≡ t
-tested {x} {y} f g e = rw (to_z-of_z w16 x f, to_z-of_z w16 y g) at e
+use Rattle.pooling.specs.Pool.{there, readings, newest, too_old, kept_of, pooled, pool_of}
 
 -- the newest of two parts, and what is kept of them
 pub newest-append : (rs ss : List Reading) → newest (rs ++ ss) ≡ max (newest rs) (newest ss)

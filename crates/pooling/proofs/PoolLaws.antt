@@ -1,18 +1,17 @@
 -- What holds of every three gauges (specs/Claims.antt). Assumes nothing.
 use Prim.Native.Nat.{ℕ, ◌+◌, ◌-◌, ◌≤◌}
-use mathlib.Core.Path.{◌≡◌, refl, sym, ap, ap₂, subst, ◌∙◌}
+use mathlib.Core.Path.{◌≡◌, refl, sym, ap₂, subst, ◌∙◌}
 use mathlib.Core.Logic.{◌⊎◌, inl, inr}
 use mathlib.Core.Bool.{Bool, true, false}
 use mathlib.Core.List.{List, [], ◌∷◌, ◌++◌, append-nil}
 use native.Mathlib.Omega.{arith, min_cases, max_cases}
 use borrow.Author.Tests.{ltb-true, ltb-false}
-use lib.Dec.{ltb}
 use lib.IntN.{ℤ}
 use Rattle.std.specs.Prelude.{if◌then◌else◌}
 use Rattle.refusal.specs.Refusals.{Reply, given, refused}
 use Rattle.tide.specs.Judge.{Reading, Shown, none, shows}
 use Rattle.pooling.specs.Pool.{there, readings, newest, too_old, kept_of, kept, oldest, lower, higher, level_of, shown_by, pooled, pool_of}
-use Rattle.pooling.specs.Claims.{Each, Some, Middle, Recent, Shows, Pools, Missing}
+use Rattle.pooling.specs.Claims.{Each, Some, Middle, Shows, Pools, Missing}
 use Rattle.pooling.proofs.LevelLaws.{Ordered, sides, is-middle, lower-swap, middle-first-two, middle-last-two}
 
 -- ---- each and some

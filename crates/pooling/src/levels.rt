@@ -2,25 +2,10 @@
 ghost use Rattle.std.specs.Prelude.{◌≡◌};
 ghost use Rattle.pooling.specs.Pool as plain;
 
-// The lower of two levels.
-pub(crate) fn lower(x: i16, y: i16) -> i16
-    ensures { result ≡ plain.lower x y }
-{
-    if y < x { y } else { x }
-}
-
-// The higher of two levels.
-fn higher(x: i16, y: i16) -> i16
-    ensures { result ≡ plain.higher x y }
-{
-    if y < x { x } else { y }
-}
-
 // The middle of three levels.
+#[tactic(auto, unfolding(crate::specs::Pool::middle, crate::specs::Pool::lower, crate::specs::Pool::higher))]
 pub(crate) fn middle(x: i16, y: i16, z: i16) -> i16
     ensures { result ≡ plain.middle x y z }
 {
-    let low = lower(x, y);
-    let high = higher(x, y);
-    higher(low, lower(high, z))
+    x.min(y).max(x.max(y).min(z))
 }

@@ -9,4 +9,4 @@
 mod gauges;
 mod levels;
 
-pub use gauges::{Pooled, pool};
+pub use gauges::pool;

@@ -1,11 +1,7 @@
 -- Refusals: what a refused call gives, the numbers, and the check of rates. Assumes nothing.
-use Rattle.std.specs.Prelude.{ℕ, zero, suc, Bool, true, false, not, ◌&&◌, ◌||◌, ltb, eqb}
+use Rattle.std.specs.Prelude.{ℕ, zero, suc, Bool, true, false, not, ◌&&◌, ◌||◌, ltb, eqb, Result, Ok, Err}
 use Rattle.refusal.specs.declared.Refusal.{Refusal}
 use Rattle.refusal.specs.declared.Refusal.TheVariants.{Rate, Station, TooManySamples, BadSample, OutputTooShort, Amplitude, TooManyBits, OutOfSamples, BytesWait, BitsWait, NoSettings, StoreFull, TooManyLengths, WildSample, TooManyCalls, CallTooLong, NoReadings}
-use Rattle.refusal.specs.declared.Acceptance.{Acceptance}
-use Rattle.refusal.specs.declared.Acceptance.TheVariants as acceptance
-use Rattle.refusal.specs.declared.Counted.{Counted}
-use Rattle.refusal.specs.declared.Counted.TheVariants as counted
 
 -- "A refused call returns its number alone"
 pub data Reply (A : Type 0) : Type 0 where
@@ -38,22 +34,9 @@ number_of CallTooLong = 45
 number_of NoReadings = 46
 
 -- what each case of an answer gives
-abbrev pub acceptance_of : Acceptance → Reply Unit
-acceptance_of acceptance.Accepted = given tt
-acceptance_of (acceptance.Refused r) = refused (number_of r)
-
-abbrev pub count_of : Counted → Reply ℕ
-count_of (counted.Count n) = given n
-count_of (counted.Refused r) = refused (number_of r)
-
-abbrev pub is_accepted : Acceptance → Bool
-is_accepted acceptance.Accepted = true
-is_accepted (acceptance.Refused r) = false
-
--- the count given, 0 where it is refused
-abbrev pub count_in : Counted → ℕ
-count_in (counted.Count n) = n
-count_in (counted.Refused r) = 0
+abbrev pub reply_in : {A : Type 0} → Result A Refusal → Reply A
+reply_in (Ok a) = given a
+reply_in (Err r) = refused (number_of r)
 
 -- the answer that a number stands for: 0 stands for acceptance
 abbrev pub reply_of : ℕ → Reply Unit

@@ -1,8 +1,8 @@
 // Refusals: their numbers, and the check of rates. Each crate of the board answers with them.
-#![tactic(auto)]
+#![tactic(auto, unfolding(crate::specs::Refusals::rate_refused, crate::specs::Refusals::rates_refused))]
 
-ghost use Rattle.std.specs.Prelude.{◌≡◌, not};
-ghost use Rattle.refusal.specs.Refusals.{number_of, is_accepted, count_in, rate_refused, rates_refused};
+ghost use Rattle.std.specs.Prelude.{◌≡◌, not, true, false, OnOk, IfErr};
+ghost use Rattle.refusal.specs.Refusals.{number_of, rate_refused, rates_refused};
 
 // Internal rate, in samples a second, and the lowest device rate. Device rates are resampled to it.
 pub const DSP_RATE: u32 = 8000;
@@ -32,12 +32,12 @@ pub enum Refusal {
     NoReadings,
 }
 
-impl Refusal {
-    // The number that a refused call returns.
-    pub fn number(self) -> u32
-        ensures { result ≡ number_of self }
-    {
-        match self {
+// The number that a refused call returns.
+impl From<Refusal> for u32 {
+    ghost from_gives = { λ why n. n ≡ number_of why };
+
+    fn from(why: Refusal) -> u32 {
+        match why {
             Refusal::Rate => 1,
             Refusal::Station => 2,
             Refusal::TooManySamples => 3,
@@ -59,64 +59,42 @@ impl Refusal {
     }
 }
 
-// What a call answers that gives nothing but its acceptance.
+// What a call answers, and the state after it: refused, the state as it was, or that which a refused `new` gives.
 #[derive(Clone, Copy)]
-pub enum Acceptance {
-    Accepted,
-    Refused(Refusal),
+pub struct Answered<S, T> {
+    pub state: S,
+    pub answer: Result<T, Refusal>,
 }
 
-// What a call answers that gives a count.
+// The state after a call that is never refused, and how many the call gave.
 #[derive(Clone, Copy)]
-pub enum Counted {
-    Count(usize),
-    Refused(Refusal),
-}
-
-pub fn is_accepted(a: Acceptance) -> bool
-    ensures { result ≡ is_accepted a }
-{
-    match a {
-        Acceptance::Accepted => true,
-        Acceptance::Refused(_) => false,
-    }
-}
-
-// The count given, 0 where it is refused.
-pub fn count_in(c: Counted) -> usize
-    ensures { result ≡ count_in c }
-{
-    match c {
-        Counted::Count(n) => n,
-        Counted::Refused(_) => 0,
-    }
+pub struct Counting<S> {
+    pub state: S,
+    pub count: usize,
 }
 
 // Whether this is an admitted device rate.
 pub fn rate_ok(rate: u32) -> bool
     ensures { not result ≡ rate_refused rate }
 {
-    if rate < DSP_RATE {
-        return false;
-    }
-    if HIGHEST_RATE < rate {
-        return false;
-    }
-    true
+    DSP_RATE <= rate && rate <= HIGHEST_RATE
 }
 
 // Whether the resampler converts between these two rates.
 pub fn rates_ok(src: u32, dst: u32) -> bool
     ensures { not result ≡ rates_refused src dst }
 {
-    if !rate_ok(src) {
-        return false;
+    rate_ok(src) && rate_ok(dst) && (src == DSP_RATE || dst == DSP_RATE)
+}
+
+// The same of one rate as a call's first check: refusal 1 where it is not.
+pub fn check_rate(rate: u32) -> Result<(), Refusal>
+    ensures admitted { OnOk result (rate_refused rate ≡ false) }
+    ensures refused { IfErr result (λ why. (why ≡ Refusal.Rate) × (rate_refused rate ≡ true)) }
+{
+    if rate_ok(rate) {
+        Ok(())
+    } else {
+        Err(Refusal::Rate)
     }
-    if !rate_ok(dst) {
-        return false;
-    }
-    if src == DSP_RATE {
-        return true;
-    }
-    dst == DSP_RATE
 }

@@ -1,12 +1,8 @@
 // What the program keeps from line to line, and what each line does.
-ghost use Rattle.std.specs.Prelude.{◌≡◌, ◌≤◌, length};
-ghost use Rattle.modem.specs.RxRep.{RxSound};
-ghost use Rattle.resampling.specs.ResampleRep.{Sound};
-ghost use Rattle.modulation.specs.TxRep.{TxSound};
-ghost use Rattle.replay.specs.Decoder.{DecoderSound};
+ghost use Rattle.std.specs.Prelude.{◌≡◌, ◌≤◌, length, IfSome};
 
-use crate::block::{Filled, bytes_of, equal, several, signs};
-use crate::fields::numbers_of;
+use crate::block::{bytes_of, equal, several, signs};
+use crate::fields::{numbers_of, word};
 use crate::floats::{doubles, singles};
 use crate::{print, receiver, resampler, sender};
 use bell103::Role;
@@ -23,7 +19,7 @@ const MOST_ROOM: u64 = 4096;
 // The most samples of a read: one more than it takes.
 const MOST_READ: u64 = 1025;
 
-#[derive(Drop)]
+#[derive(Clone, Copy)]
 pub struct Decoder {
     pub rx: Rx,
     pub resampler: Resampler,
@@ -32,11 +28,10 @@ pub struct Decoder {
     pub n: usize,
     // Lines begun.
     pub line: u64,
+    pub ghost filled: { n ≤ 2049 },
 }
 
-pub fn fresh() -> Decoder
-    ensures { DecoderSound result }
-{
+pub fn fresh() -> Decoder {
     let receiver = Rx::new(8000, Role::Originate);
     let converter = Resampler::new(8000, 8000);
     let sender = Tx::new(8000, Role::Originate);
@@ -53,307 +48,156 @@ pub fn fresh() -> Decoder
 }
 
 // The next line begins.
-fn counted(d: Decoder) -> Decoder
-    requires { DecoderSound d }
-    ensures { DecoderSound result }
-{
-    let rx = d.rx;
-    let resampler = d.resampler;
-    let tx = d.tx;
-    Decoder {
-        rx,
-        resampler,
-        tx,
-        n: d.n,
-        line: std::num::wrapping_add_u64(d.line, 1),
-    }
+fn counted(mut d: Decoder) -> Decoder {
+    d.line = d.line.wrapping_add(1);
+    d
 }
 
 // A line that is none of those that main.rt lists: nothing is done.
-fn malformed(d: Decoder) -> Decoder
-    requires { DecoderSound d }
-    ensures { DecoderSound result }
-{
+fn malformed(d: Decoder) -> Decoder {
     print::text(b"? line ");
     print::number(d.line);
     print::end_line();
     d
 }
 
-fn filled(d: Decoder, f: Filled) -> Decoder
-    requires { DecoderSound d × (f.n ≤ 2049) }
-    ensures { DecoderSound result }
-{
-    if !f.good {
-        return malformed(d);
-    }
-    let rx = d.rx;
-    let resampler = d.resampler;
-    let tx = d.tx;
-    Decoder {
-        rx,
-        resampler,
-        tx,
-        n: f.n,
-        line: d.line,
-    }
-}
-
-fn with_rx(d: Decoder, rx: Rx) -> Decoder
-    requires { DecoderSound d × RxSound rx }
-    ensures { DecoderSound result }
-{
-    let resampler = d.resampler;
-    let tx = d.tx;
-    Decoder {
-        rx,
-        resampler,
-        tx,
-        n: 0,
-        line: d.line,
-    }
-}
-
-fn with_resampler(d: Decoder, resampler: Resampler) -> Decoder
-    requires { DecoderSound d × Sound resampler }
-    ensures { DecoderSound result }
-{
-    let rx = d.rx;
-    let tx = d.tx;
-    Decoder {
-        rx,
-        resampler,
-        tx,
-        n: 0,
-        line: d.line,
-    }
-}
-
-fn with_tx(d: Decoder, tx: Tx) -> Decoder
-    requires { DecoderSound d × TxSound tx }
-    ensures { DecoderSound result }
-{
-    let rx = d.rx;
-    let resampler = d.resampler;
-    Decoder {
-        rx,
-        resampler,
-        tx,
-        n: 0,
-        line: d.line,
-    }
-}
-
-// ---- the calls of the receiver and the resampler
-
-fn new_receiver(d: Decoder, line: &[u8]) -> Decoder
-    requires { DecoderSound d }
-    ensures { DecoderSound result }
-{
-    let f = numbers_of(line, false);
-    if f.count != 2 {
-        return malformed(d);
-    }
-    if 0xFFFF_FFFF < f.a {
-        return malformed(d);
-    }
-    if 1 < f.b {
-        return malformed(d);
-    }
-    let rx = receiver::create(f.a as u32, f.b);
-    with_rx(d, rx)
-}
-
-fn no_samples() -> [f32; PLACES]
-    ensures { length result ≡ 2049 }
-{
-    [0.0f32; PLACES]
-}
-
-fn write(d: Decoder, block: &[u64], line: &[u8]) -> Decoder
-    requires { DecoderSound d }
-    ensures { DecoderSound result }
-{
-    let f = numbers_of(line, false);
-    if f.count != 2 {
-        return malformed(d);
-    }
-    let mut samples = no_samples();
-    singles(block, &mut samples);
-    let n = d.n;
-    let before = d.rx;
-    let rx = receiver::write(before, &samples[..n], f.a, f.b);
-    with_rx(d, rx)
-}
-
-fn new_resampler(d: Decoder, line: &[u8]) -> Decoder
-    requires { DecoderSound d }
-    ensures { DecoderSound result }
-{
-    let f = numbers_of(line, false);
-    if f.count != 2 {
-        return malformed(d);
-    }
-    if 0xFFFF_FFFF < f.a {
-        return malformed(d);
-    }
-    if 0xFFFF_FFFF < f.b {
-        return malformed(d);
-    }
-    let r = resampler::create(f.a as u32, f.b as u32);
-    with_resampler(d, r)
-}
-
-fn no_input() -> [f64; PLACES]
-    ensures { length result ≡ 2049 }
-{
-    [0.0f64; PLACES]
-}
-
-fn process(d: Decoder, block: &[u64], line: &[u8]) -> Decoder
-    requires { DecoderSound d }
-    ensures { DecoderSound result }
-{
-    let f = numbers_of(line, false);
-    if f.count != 1 {
-        return malformed(d);
-    }
-    if MOST_ROOM < f.a {
-        return malformed(d);
-    }
-    let mut input = no_input();
-    doubles(block, &mut input);
-    let n = d.n;
-    let before = d.resampler;
-    let r = resampler::process(before, &input[..n], f.a as usize);
-    with_resampler(d, r)
-}
-
-fn longest(d: Decoder, line: &[u8]) -> Decoder
-    requires { DecoderSound d }
-    ensures { DecoderSound result }
-{
-    let f = numbers_of(line, false);
-    if f.count != 3 {
-        return malformed(d);
-    }
-    if 0xFFFF_FFFF < f.a {
-        return malformed(d);
-    }
-    if 0xFFFF_FFFF < f.b {
-        return malformed(d);
-    }
-    resampler::longest(f.a as u32, f.b as u32, f.c);
+fn with_rx(mut d: Decoder, rx: Rx) -> Decoder {
+    d.rx = rx;
+    d.n = 0;
     d
+}
+
+fn with_resampler(mut d: Decoder, resampler: Resampler) -> Decoder {
+    d.resampler = resampler;
+    d.n = 0;
+    d
+}
+
+fn with_tx(mut d: Decoder, tx: Tx) -> Decoder {
+    d.tx = tx;
+    d.n = 0;
+    d
+}
+
+// So many samples or bytes in the block.
+fn with_places(mut d: Decoder, n: usize) -> Decoder
+    requires { n ≤ 2049 }
+{
+    d.n = n;
+    d
+}
+
+// A number up to a most.
+fn up_to(most: u64, n: u64) -> Option<u64>
+    ensures { IfSome result (λ k. k ≤ most) }
+{
+    if n <= most { Some(n) } else { None }
+}
+
+// ---- the calls of the receiver and the resampler: none where the line is not as main.rt says
+
+fn new_receiver(d: Decoder, line: &[u8]) -> Option<Decoder> {
+    let [rate, role] = numbers_of::<2>(line, false)?;
+    Some(with_rx(d, receiver::create(word(rate)?, up_to(1, role)?)))
+}
+
+fn write(d: Decoder, block: &[u64], line: &[u8]) -> Option<Decoder> {
+    let [bytes, events] = numbers_of::<2>(line, false)?;
+    let mut samples = [0.0f32; PLACES];
+    singles(block, &mut samples);
+    let rx = receiver::write(d.rx, &samples[..d.n], bytes, events);
+    Some(with_rx(d, rx))
+}
+
+fn new_resampler(d: Decoder, line: &[u8]) -> Option<Decoder> {
+    let [src, dst] = numbers_of::<2>(line, false)?;
+    Some(with_resampler(d, resampler::create(word(src)?, word(dst)?)))
+}
+
+fn process(d: Decoder, block: &[u64], line: &[u8]) -> Option<Decoder> {
+    let [room] = numbers_of::<1>(line, false)?;
+    let places = up_to(MOST_ROOM, room)?;
+    let mut input = [0.0f64; PLACES];
+    doubles(block, &mut input);
+    let r = resampler::process(d.resampler, &input[..d.n], places as usize);
+    Some(with_resampler(d, r))
+}
+
+fn longest(d: Decoder, line: &[u8]) -> Option<Decoder> {
+    let [src, dst, n] = numbers_of::<3>(line, false)?;
+    resampler::longest(word(src)?, word(dst)?, n);
+    Some(d)
 }
 
 // ---- the sender's calls
 
-fn new_sender(d: Decoder, line: &[u8]) -> Decoder
-    requires { DecoderSound d }
-    ensures { DecoderSound result }
-{
-    let f = numbers_of(line, false);
-    if f.count != 2 {
-        return malformed(d);
-    }
-    if 0xFFFF_FFFF < f.a {
-        return malformed(d);
-    }
-    if 1 < f.b {
-        return malformed(d);
-    }
-    let tx = sender::create(f.a as u32, f.b);
-    with_tx(d, tx)
+fn new_sender(d: Decoder, line: &[u8]) -> Option<Decoder> {
+    let [rate, role] = numbers_of::<2>(line, false)?;
+    Some(with_tx(d, sender::create(word(rate)?, up_to(1, role)?)))
 }
 
-fn set_amplitude(d: Decoder, line: &[u8]) -> Decoder
-    requires { DecoderSound d }
-    ensures { DecoderSound result }
-{
-    let f = numbers_of(line, true);
-    if f.count != 1 {
-        return malformed(d);
-    }
-    if 0xFFFF_FFFF < f.a {
-        return malformed(d);
-    }
-    let before = d.tx;
-    let tx = sender::set_amplitude(before, f.a);
-    with_tx(d, tx)
+fn set_amplitude(d: Decoder, line: &[u8]) -> Option<Decoder> {
+    let [pattern] = numbers_of::<1>(line, true)?;
+    let bits = word(pattern)?;
+    Some(with_tx(d, sender::set_amplitude(d.tx, bits as u64)))
 }
 
-fn no_bytes() -> [u8; PLACES]
-    ensures { length result ≡ 2049 }
-{
-    [0u8; PLACES]
-}
-
-fn send(d: Decoder, block: &[u64], line: &[u8]) -> Decoder
-    requires { DecoderSound d }
-    ensures { DecoderSound result }
-{
+fn send(d: Decoder, block: &[u64], line: &[u8]) -> Option<Decoder> {
     if line.len() != 1 {
-        return malformed(d);
+        return None;
     }
-    let mut bytes = no_bytes();
+    let mut bytes = [0u8; PLACES];
     bytes_of(block, &mut bytes);
-    let n = d.n;
-    let before = d.tx;
-    let tx = sender::write(before, &bytes[..n]);
-    with_tx(d, tx)
+    let tx = sender::write(d.tx, &bytes[..d.n]);
+    Some(with_tx(d, tx))
 }
 
-fn idle_mark(d: Decoder, line: &[u8]) -> Decoder
-    requires { DecoderSound d }
-    ensures { DecoderSound result }
-{
-    let f = numbers_of(line, false);
-    if f.count != 1 {
-        return malformed(d);
-    }
-    let before = d.tx;
-    let tx = sender::idle_mark(before, f.a);
-    with_tx(d, tx)
+fn idle_mark(d: Decoder, line: &[u8]) -> Option<Decoder> {
+    let [bits] = numbers_of::<1>(line, false)?;
+    Some(with_tx(d, sender::idle_mark(d.tx, bits)))
 }
 
-fn read(d: Decoder, line: &[u8], each: bool) -> Decoder
-    requires { DecoderSound d }
-    ensures { DecoderSound result }
-{
-    let f = numbers_of(line, false);
-    if f.count != 1 {
-        return malformed(d);
-    }
-    if MOST_READ < f.a {
-        return malformed(d);
-    }
-    let before = d.tx;
-    let tx = sender::read(before, f.a as usize, each);
-    with_tx(d, tx)
+fn read(d: Decoder, line: &[u8], each: bool) -> Option<Decoder> {
+    let [samples] = numbers_of::<1>(line, false)?;
+    let n = up_to(MOST_READ, samples)?;
+    Some(with_tx(d, sender::read(d.tx, n as usize, each)))
 }
 
-fn duration(d: Decoder, line: &[u8]) -> Decoder
-    requires { DecoderSound d }
-    ensures { DecoderSound result }
-{
-    let f = numbers_of(line, false);
-    if f.count != 1 {
-        return malformed(d);
-    }
-    let tx = d.tx;
-    sender::duration(tx, f.a);
-    with_tx(d, tx)
+fn duration(d: Decoder, line: &[u8]) -> Option<Decoder> {
+    let [bits] = numbers_of::<1>(line, false)?;
+    sender::duration(d.tx, bits);
+    Some(with_tx(d, d.tx))
 }
 
 // ---- a line
 
-// The lines that make a call of the sender.
-fn sender_call(d: Decoder, letter: u8, block: &[u64], line: &[u8]) -> Decoder
-    requires { DecoderSound d }
-    ensures { DecoderSound result }
+// What a line does, by its letter.
+fn done(d: Decoder, block: &mut [u64], line: &[u8]) -> Option<Decoder>
+    requires { length block.old ≡ 2049 }
+    ensures { length block.new ≡ 2049 }
 {
+    match line {
+        [] => None,
+        [b'#', ..] => {
+            print::text(line);
+            print::end_line();
+            Some(d)
+        }
+        [b'S', ..] => Some(with_places(d, several(block, d.n, line)?)),
+        [b'N', ..] => Some(with_places(d, equal(block, d.n, line)?)),
+        [b'B', ..] => Some(with_places(d, signs(block, d.n, line)?)),
+        [letter, ..] => call(d, *letter, block, line),
+    }
+}
+
+// The lines that make a call.
+fn call(d: Decoder, letter: u8, block: &[u64], line: &[u8]) -> Option<Decoder> {
     match letter {
+        b'R' => new_receiver(d, line),
+        b'W' => write(d, block, line),
+        b'Z' => new_resampler(d, line),
+        b'P' => process(d, block, line),
+        b'M' => longest(d, line),
         b'T' => new_sender(d, line),
         b'A' => set_amplitude(d, line),
         b'K' => send(d, block, line),
@@ -361,50 +205,18 @@ fn sender_call(d: Decoder, letter: u8, block: &[u64], line: &[u8]) -> Decoder
         b'G' => read(d, line, true),
         b'H' => read(d, line, false),
         b'L' => duration(d, line),
-        _ => malformed(d),
+        _ => None,
     }
-}
-
-// The lines that make a call.
-fn call(d: Decoder, letter: u8, block: &[u64], line: &[u8]) -> Decoder
-    requires { DecoderSound d }
-    ensures { DecoderSound result }
-{
-    match letter {
-        b'R' => new_receiver(d, line),
-        b'W' => write(d, block, line),
-        b'Z' => new_resampler(d, line),
-        b'P' => process(d, block, line),
-        b'M' => longest(d, line),
-        _ => sender_call(d, letter, block, line),
-    }
-}
-
-fn remark(d: Decoder, line: &[u8]) -> Decoder
-    requires { DecoderSound d }
-    ensures { DecoderSound result }
-{
-    print::text(line);
-    print::end_line();
-    d
 }
 
 // One line, without its end.
 pub fn run(before: Decoder, block: &mut [u64], line: &[u8]) -> Decoder
-    requires { DecoderSound before × (length block.old ≡ 2049) }
-    ensures { DecoderSound result × (length block.new ≡ 2049) }
+    requires { length block.old ≡ 2049 }
+    ensures { length block.new ≡ 2049 }
 {
     let d = counted(before);
-    if line.len() == 0 {
-        return malformed(d);
-    }
-    let letter = line[0];
-    let n = d.n;
-    match letter {
-        b'#' => remark(d, line),
-        b'S' => filled(d, several(block, n, line)),
-        b'N' => filled(d, equal(block, n, line)),
-        b'B' => filled(d, signs(block, n, line)),
-        _ => call(d, letter, block, line),
+    match done(d, block, line) {
+        Some(after) => after,
+        None => malformed(d),
     }
 }

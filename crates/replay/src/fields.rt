@@ -1,20 +1,11 @@
 // The fields of a line: numbers, each after one blank.
 ghost use Rattle.std.specs.Prelude.{◌<◌, ◌≤◌};
 
-// A number, and the place behind it; place 0 where there is no number.
+// A number, and the place behind it.
 #[derive(Drop)]
 pub struct Number {
     pub value: u64,
     pub next: usize,
-}
-
-// The numbers of a line, and how many there are; 0 where anything else stands in it.
-#[derive(Drop)]
-pub struct Numbers {
-    pub count: usize,
-    pub a: u64,
-    pub b: u64,
-    pub c: u64,
 }
 
 // A digit's value; 16 where it is none.
@@ -41,72 +32,50 @@ fn longer(value: u64, hex: bool, d: u64) -> u64
     if hex { value * 16 + d } else { value * 10 + d }
 }
 
-fn found(value: u64, from: usize, next: usize) -> Number {
-    if from < next {
-        Number { value, next }
-    } else {
-        Number { value: 0, next: 0 }
-    }
-}
-
-// The number from this place on, up to a blank or the end.
-fn digits_from(line: &[u8], from: usize, hex: bool) -> Number {
+// The number from this place on, up to a blank or the end; none where anything but digits stands there.
+fn digits_from(line: &[u8], from: usize, hex: bool) -> Option<Number> {
     let mut value = 0;
-    let mut i = from;
-    while i < line.len() {
-        let b = line[i];
-        if b == b' ' {
-            return found(value, from, i);
-        }
-        let d = digit(b);
-        if base_of(hex) <= d {
-            return Number { value: 0, next: 0 };
-        }
+    let mut next = from;
+    while next < line.len() && line[next] != b' ' {
+        let d = digit(line[next]);
         // 60 bits leave room for four more.
-        if 0x1000_0000_0000_0000 <= value {
-            return Number { value: 0, next: 0 };
+        if base_of(hex) <= d || 0x1000_0000_0000_0000 <= value {
+            return None;
         }
         value = longer(value, hex, d);
-        i += 1;
+        next += 1;
     }
-    found(value, from, i)
+    if from == next {
+        return None;
+    }
+    Some(Number { value, next })
 }
 
 // The blank at this place and the number behind it.
-pub fn number_at(line: &[u8], at: usize, hex: bool) -> Number {
-    if line.len() <= at {
-        return Number { value: 0, next: 0 };
-    }
-    if line[at] != b' ' {
-        return Number { value: 0, next: 0 };
+pub fn number_at(line: &[u8], at: usize, hex: bool) -> Option<Number> {
+    if line.len() <= at || line[at] != b' ' {
+        return None;
     }
     digits_from(line, at + 1, hex)
 }
 
-// How many fields there are, from the places behind each and the line's end.
-fn how_many(end: usize, a: usize, b: usize, c: usize) -> usize {
-    if c == end {
-        return 3;
+// So many numbers behind the line's letter, and nothing else: decimal but for the first where `hex` says so.
+pub fn numbers_of<const N: usize>(line: &[u8], hex: bool) -> Option<[u64; N]> {
+    let mut values = [0u64; N];
+    let mut at = 1;
+    for i in 0..N {
+        let number = number_at(line, at, hex && i == 0)?;
+        values[i] = number.value;
+        at = number.next;
     }
-    if b == end {
-        return 2;
-    }
-    if a == end {
-        return 1;
-    }
-    0
+    if at == line.len() { Some(values) } else { None }
 }
 
-// At most three numbers behind the line's letter, decimal but for the first where `hex` says so.
-pub fn numbers_of(line: &[u8], hex: bool) -> Numbers {
-    let a = number_at(line, 1, hex);
-    let b = number_at(line, a.next, false);
-    let c = number_at(line, b.next, false);
-    let count = how_many(line.len(), a.next, b.next, c.next);
-    Numbers {
-        count,
-        a: a.value,
-        b: b.value,
-        c: c.value,
+// A number of 32 bits.
+pub fn word(n: u64) -> Option<u32> {
+    if n <= 0xFFFF_FFFF {
+        Some(n as u32)
+    } else {
+        None
     }
 }

@@ -24,13 +24,8 @@ fn double(pattern: u64) -> f64 {
 pub fn singles(patterns: &[u64], out: &mut [f32])
     ensures { length out.new ≡ length out.old }
 {
-    let mut i = 0;
-    while i < patterns.len() {
-        if out.len() <= i {
-            return;
-        }
+    for i in 0..patterns.len().min(out.len()) {
         out[i] = single(patterns[i]);
-        i += 1;
     }
 }
 
@@ -38,13 +33,8 @@ pub fn singles(patterns: &[u64], out: &mut [f32])
 pub fn doubles(patterns: &[u64], out: &mut [f64])
     ensures { length out.new ≡ length out.old }
 {
-    let mut i = 0;
-    while i < patterns.len() {
-        if out.len() <= i {
-            return;
-        }
+    for i in 0..patterns.len().min(out.len()) {
         out[i] = double(patterns[i]);
-        i += 1;
     }
 }
 
@@ -60,13 +50,8 @@ fn print_pattern(x: f64) {
 
 // The first n, a line for each.
 pub fn print_patterns(list: &[f64], n: usize) {
-    let mut i = 0;
-    while i < list.len() {
-        if n <= i {
-            return;
-        }
-        print_pattern(list[i]);
-        i += 1;
+    for &x in &list[..n.min(list.len())] {
+        print_pattern(x);
     }
 }
 
@@ -80,11 +65,9 @@ fn pattern_of(x: f32) -> u32 {
 
 // Each pattern, on a line of its own.
 pub fn print_singles(list: &[f32]) {
-    let mut i = 0;
-    while i < list.len() {
-        print::pattern(pattern_of(list[i]) as u64);
+    for &x in list {
+        print::pattern(pattern_of(x) as u64);
         print::end_line();
-        i += 1;
     }
 }
 
@@ -99,10 +82,8 @@ fn longer_sum(sum: u64, pattern: u32) -> u64
 // A sum that tells the order too: from 0, 31 times the sum so far plus the next pattern, modulo 4,294,967,296.
 pub fn sum_of_patterns(list: &[f32]) -> u64 {
     let mut sum = 0;
-    let mut i = 0;
-    while i < list.len() {
-        sum = longer_sum(sum, pattern_of(list[i]));
-        i += 1;
+    for &x in list {
+        sum = longer_sum(sum, pattern_of(x));
     }
     sum
 }

@@ -1,6 +1,5 @@
 // Standard input, cut into lines.
 ghost use Rattle.std.specs.Prelude.{◌≡◌, ◌<◌, ◌≤◌, length};
-ghost use Rattle.replay.specs.Decoder.{DecoderSound};
 ghost use Rattle.replay.specs.Lines.{ScansOn};
 
 use crate::decoder::{Decoder, PLACES, fresh, run};
@@ -56,7 +55,7 @@ fn scan(input: &[u8], from: usize, line: &mut [u8], filled: usize) -> Scanned
 }
 
 // The states, and how many characters of the next line stand in the buffer.
-#[derive(Drop)]
+#[derive(Clone, Copy)]
 struct Taken {
     decoder: Decoder,
     n: usize,
@@ -64,13 +63,14 @@ struct Taken {
 
 // Runs the line if it ended.
 fn run_ended(decoder: Decoder, block: &mut [u64], line: &[u8], ended: bool) -> Decoder
-    requires { DecoderSound decoder × (length block.old ≡ 2049) }
-    ensures { DecoderSound result × (length block.new ≡ 2049) }
+    requires { length block.old ≡ 2049 }
+    ensures { length block.new ≡ 2049 }
 {
     if ended {
-        return run(decoder, block, line);
+        run(decoder, block, line)
+    } else {
+        decoder
     }
-    decoder
 }
 
 // How much of a line is run: nothing where it fills the buffer, since it may have been longer.
@@ -95,8 +95,8 @@ fn run_part(
     filled: usize,
     input: &[u8],
 ) -> Taken
-    requires { DecoderSound decoder × (length block.old ≡ 2049) × (length line.old ≡ 321) × (filled ≤ 321) }
-    ensures { DecoderSound result.decoder × (length block.new ≡ 2049) × (length line.new ≡ 321) × (result.n ≤ 321) }
+    requires { (length block.old ≡ 2049) × (length line.old ≡ 321) × (filled ≤ 321) }
+    ensures { (length block.new ≡ 2049) × (length line.new ≡ 321) × (result.n ≤ 321) }
 {
     let mut d = decoder;
     let mut n = filled;
@@ -111,37 +111,21 @@ fn run_part(
     Taken { decoder: d, n }
 }
 
-fn no_patterns() -> [u64; PLACES]
-    ensures { length result ≡ 2049 }
-{
-    [0u64; PLACES]
-}
-
-fn no_characters() -> [u8; WIDTH]
-    ensures { length result ≡ 321 }
-{
-    [0u8; WIDTH]
-}
-
 // How many bytes a read of standard input puts at the front; 0 at its end, and where it cannot be read.
 fn read_some(rt: &HostRuntime, input: &mut [u8]) -> usize
     ensures { result ≤ length input.new }
 {
     let mut stdin = rt.stdin();
-    match stdin.read(input) {
-        Ok(n) => n,
-        Err(_) => 0,
-    }
+    stdin.read(input).unwrap_or(0)
 }
 
 // Runs all lines that end. Nothing says that an input does, so the parts are counted, from a number that no run uses up.
 pub fn run_all(rt: &HostRuntime) {
-    let mut block = no_patterns();
-    let mut line = no_characters();
+    let mut block = [0u64; PLACES];
+    let mut line = [0u8; WIDTH];
     let mut d = fresh();
     let mut n = 0;
-    let mut turns = u64::MAX;
-    while turns > 0 {
+    for _ in 0..u64::MAX {
         let mut input = io::buffer();
         let got = read_some(rt, &mut input);
         if got == 0 {
@@ -150,6 +134,5 @@ pub fn run_all(rt: &HostRuntime) {
         let t = run_part(d, &mut block, &mut line, n, &input[..got]);
         d = t.decoder;
         n = t.n;
-        turns -= 1;
     }
 }

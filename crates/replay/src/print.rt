@@ -1,6 +1,6 @@
 // Words, numbers and answers on standard output.
-use demodulation::Event;
-use refusal::{Acceptance, Counted};
+use demodulation::Carrier;
+use refusal::Refusal;
 
 pub fn text(words: &[u8]) {
     io::write_all(1, words);
@@ -16,59 +16,55 @@ pub fn end_line() {
 
 // 1 or 0.
 pub fn flag(up: bool) {
-    if up {
-        text(b"1");
-    } else {
-        text(b"0");
-    }
+    text(if up { b"1" } else { b"0" });
 }
 
 // 0, or the number of the refusal.
-pub fn acceptance(a: Acceptance) {
+pub fn acceptance(a: Result<(), Refusal>) {
     match a {
-        Acceptance::Accepted => {
+        Ok(()) => {
             text(b"0");
         }
-        Acceptance::Refused(r) => {
-            number(r.number() as u64);
+        Err(r) => {
+            number(u32::from(r) as u64);
         }
     }
 }
 
 // The number of the refusal, 0 where there is none.
-pub fn refusal(c: Counted) {
+pub fn refusal(c: Result<usize, Refusal>) {
     match c {
-        Counted::Count(_) => {
+        Ok(_) => {
             text(b"0");
         }
-        Counted::Refused(r) => {
-            number(r.number() as u64);
+        Err(r) => {
+            number(u32::from(r) as u64);
         }
     }
 }
 
 // The count, or the number of the refusal.
-pub fn counted(c: Counted) {
+pub fn counted(c: Result<usize, Refusal>) {
     match c {
-        Counted::Count(n) => {
+        Ok(n) => {
             number(n as u64);
         }
-        Counted::Refused(r) => {
+        Err(r) => {
             text(b"refused ");
-            number(r.number() as u64);
+            number(u32::from(r) as u64);
         }
     }
 }
 
 // The event, and whether there was one.
-pub fn event(e: Event) -> bool {
+pub fn event(e: Option<Carrier>) -> bool {
     match e {
-        Event::Nothing => false,
-        Event::CarrierUp => {
+        None => false,
+        Some(Carrier::Up) => {
             text(b" up");
             true
         }
-        Event::CarrierDown => {
+        Some(Carrier::Down) => {
             text(b" down");
             true
         }
@@ -88,12 +84,7 @@ fn byte(b: u8) {
 
 // The first n bytes.
 pub fn bytes(list: &[u8], n: usize) {
-    let mut i = 0;
-    while i < list.len() {
-        if n <= i {
-            return;
-        }
-        byte(list[i]);
-        i += 1;
+    for &b in &list[..n.min(list.len())] {
+        byte(b);
     }
 }

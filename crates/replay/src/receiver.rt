@@ -1,10 +1,9 @@
 // The receiver's calls, and the line that each prints.
-ghost use Rattle.std.specs.Prelude.{◌≡◌, ◌≤◌, length};
-ghost use Rattle.modem.specs.RxRep.{RxSound};
 
 use crate::print;
 use bell103::Role;
 use modem::Rx;
+use numeric::arrays::filled;
 
 // Role 0 originates.
 pub fn role_of(n: u64) -> Role {
@@ -16,9 +15,7 @@ pub fn role_of(n: u64) -> Role {
 }
 
 // A fresh receiver; role 0 originates.
-pub fn create(rate: u32, role: u64) -> Rx
-    ensures { RxSound result }
-{
+pub fn create(rate: u32, role: u64) -> Rx {
     let made = Rx::new(rate, role_of(role));
     let answer = made.answer;
     print::text(b"receiver ");
@@ -31,23 +28,8 @@ pub fn create(rate: u32, role: u64) -> Rx
     made.state
 }
 
-fn no_bytes() -> [u8; 512]
-    ensures { length result ≡ 512 }
-{
-    [0u8; 512]
-}
-
-fn at_most_512(n: u64) -> usize
-    ensures { result ≤ 512 }
-{
-    if n < 512 { n as usize } else { 512 }
-}
-
 // Reads as many bytes as the buffer has room for.
-fn read_into(rx: Rx, buf: &mut [u8]) -> Rx
-    requires { RxSound rx }
-    ensures { RxSound result }
-{
+fn read_into(rx: Rx, buf: &mut [u8]) -> Rx {
     let given = rx.read(buf);
     print::text(b", bytes");
     print::bytes(buf, given.count);
@@ -55,40 +37,28 @@ fn read_into(rx: Rx, buf: &mut [u8]) -> Rx
 }
 
 // Reads at most so many bytes, and at most all that can wait.
-fn read(rx: Rx, most: u64) -> Rx
-    requires { RxSound rx }
-    ensures { RxSound result }
-{
-    let mut bytes = no_bytes();
-    let room = at_most_512(most);
+fn read(rx: Rx, most: u64) -> Rx {
+    let mut bytes: [u8; 512] = filled(0);
+    let room = most.min(512) as usize;
     read_into(rx, &mut bytes[..room])
 }
 
 // Drains at most so many events.
-fn drain(rx: Rx, most: u64) -> Rx
-    requires { RxSound rx }
-    ensures { RxSound result }
-{
+fn drain(rx: Rx, most: u64) -> Rx {
     print::text(b", events");
-    let mut left = most;
     let mut now = rx;
-    while left > 0 {
+    for _ in 0..most {
         let taken = now.events();
-        let event = taken.event;
         now = taken.state;
-        if !print::event(event) {
+        if !print::event(taken.event) {
             return now;
         }
-        left -= 1;
     }
     now
 }
 
 // The answer of a write, and what the receiver reports behind it.
-pub fn write(rx: Rx, samples: &[f32], bytes: u64, events: u64) -> Rx
-    requires { RxSound rx }
-    ensures { RxSound result }
-{
+pub fn write(rx: Rx, samples: &[f32], bytes: u64, events: u64) -> Rx {
     let written = rx.write(samples);
     let answer = written.answer;
     let after = written.state;

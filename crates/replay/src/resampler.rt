@@ -1,10 +1,9 @@
 // The resampler's calls, and the lines that each prints.
 ghost use Rattle.std.specs.Prelude.{◌≡◌, ◌≤◌, length};
-ghost use Rattle.resampling.specs.ResampleRep.{Sound};
 
 use crate::floats::print_patterns;
 use crate::print;
-use refusal::count_in;
+use numeric::arrays::filled;
 use resampling::Resampler;
 
 fn rates(src: u32, dst: u32) {
@@ -14,9 +13,7 @@ fn rates(src: u32, dst: u32) {
 }
 
 // A fresh resampler.
-pub fn create(src: u32, dst: u32) -> Resampler
-    ensures { Sound result }
-{
+pub fn create(src: u32, dst: u32) -> Resampler {
     let made = Resampler::new(src, dst);
     let answer = made.answer;
     print::text(b"resampler ");
@@ -40,17 +37,8 @@ pub fn longest(src: u32, dst: u32, n: u64) {
     print::end_line();
 }
 
-fn no_output() -> [f64; 4096]
-    ensures { length result ≡ 4096 }
-{
-    [0.0f64; 4096]
-}
-
 // The answer to `process` with this output, and each sample that it wrote.
-fn process_into(r: Resampler, input: &[f64], output: &mut [f64]) -> Resampler
-    requires { Sound r }
-    ensures { Sound result }
-{
+fn process_into(r: Resampler, input: &[f64], output: &mut [f64]) -> Resampler {
     let done = r.process(input, output);
     let answer = done.answer;
     print::text(b"process ");
@@ -60,15 +48,14 @@ fn process_into(r: Resampler, input: &[f64], output: &mut [f64]) -> Resampler
     print::text(b": ");
     print::counted(answer);
     print::end_line();
-    print_patterns(output, count_in(answer));
+    print_patterns(output, answer.unwrap_or(0));
     done.state
 }
 
 // `process` with so much room.
 pub fn process(r: Resampler, input: &[f64], room: usize) -> Resampler
-    requires { Sound r × (room ≤ 4096) }
-    ensures { Sound result }
+    requires { room ≤ 4096 }
 {
-    let mut output = no_output();
+    let mut output: [f64; 4096] = filled(0.0);
     process_into(r, input, &mut output[..room])
 }

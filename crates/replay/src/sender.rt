@@ -1,17 +1,15 @@
 // The sender's calls, and the lines that each prints.
 ghost use Rattle.std.specs.Prelude.{◌≡◌, ◌≤◌, length};
-ghost use Rattle.modulation.specs.TxRep.{TxSound};
 
 use crate::floats::{print_singles, single, sum_of_patterns};
 use crate::print;
 use crate::receiver::role_of;
 use modulation::Tx;
-use refusal::Acceptance;
+use numeric::arrays::filled;
+use refusal::Refusal;
 
 // A fresh sender; role 0 originates.
-pub fn create(rate: u32, role: u64) -> Tx
-    ensures { TxSound result }
-{
+pub fn create(rate: u32, role: u64) -> Tx {
     let made = Tx::new(rate, role_of(role));
     let answer = made.answer;
     print::text(b"sender ");
@@ -31,17 +29,14 @@ fn wait(tx: Tx) {
 }
 
 // The answer, and whether bits wait afterwards.
-fn answered(answer: Acceptance, after: Tx) {
+fn answered(answer: Result<(), Refusal>, after: Tx) {
     print::text(b": ");
     print::acceptance(answer);
     wait(after);
 }
 
 // Writes the bytes.
-pub fn write(tx: Tx, bytes: &[u8]) -> Tx
-    requires { TxSound tx }
-    ensures { TxSound result }
-{
+pub fn write(tx: Tx, bytes: &[u8]) -> Tx {
     let written = tx.write(bytes);
     let answer = written.answer;
     let after = written.state;
@@ -53,10 +48,7 @@ pub fn write(tx: Tx, bytes: &[u8]) -> Tx
 }
 
 // Writes n bits of idle mark.
-pub fn idle_mark(tx: Tx, n: u64) -> Tx
-    requires { TxSound tx }
-    ensures { TxSound result }
-{
+pub fn idle_mark(tx: Tx, n: u64) -> Tx {
     let written = tx.write_idle_mark(n as usize);
     let answer = written.answer;
     let after = written.state;
@@ -68,10 +60,7 @@ pub fn idle_mark(tx: Tx, n: u64) -> Tx
 }
 
 // Sets the amplitude to the f32 with this pattern.
-pub fn set_amplitude(tx: Tx, pattern: u64) -> Tx
-    requires { TxSound tx }
-    ensures { TxSound result }
-{
+pub fn set_amplitude(tx: Tx, pattern: u64) -> Tx {
     let set = tx.set_amplitude(single(pattern));
     let answer = set.answer;
     let after = set.state;
@@ -95,28 +84,19 @@ fn samples_read(samples: &[f32], each: bool) {
 }
 
 // Behind a read's answer: the samples, or nothing where it was refused.
-fn given(answer: Acceptance, samples: &[f32], each: bool) {
+fn given(answer: Result<(), Refusal>, samples: &[f32], each: bool) {
     match answer {
-        Acceptance::Accepted => {
+        Ok(()) => {
             samples_read(samples, each);
         }
-        Acceptance::Refused(_) => {
+        Err(_) => {
             print::end_line();
         }
     }
 }
 
-fn no_samples() -> [f32; 1025]
-    ensures { length result ≡ 1025 }
-{
-    [0.0f32; 1025]
-}
-
 // Reads as many samples as there are places.
-fn read_into(tx: Tx, samples: &mut [f32], each: bool) -> Tx
-    requires { TxSound tx }
-    ensures { TxSound result }
-{
+fn read_into(tx: Tx, samples: &mut [f32], each: bool) -> Tx {
     let done = tx.read(samples);
     let answer = done.answer;
     let after = done.state;
@@ -129,17 +109,14 @@ fn read_into(tx: Tx, samples: &mut [f32], each: bool) -> Tx
 
 // Reads n samples, and prints each of them or their sum.
 pub fn read(tx: Tx, n: usize, each: bool) -> Tx
-    requires { TxSound tx × (n ≤ 1025) }
-    ensures { TxSound result }
+    requires { n ≤ 1025 }
 {
-    let mut samples = no_samples();
+    let mut samples: [f32; 1025] = filled(0.0);
     read_into(tx, &mut samples[..n], each)
 }
 
 // `samples_for_bits` of n.
-pub fn duration(tx: Tx, n: u64)
-    requires { TxSound tx }
-{
+pub fn duration(tx: Tx, n: u64) {
     print::text(b"samples for ");
     print::number(n);
     print::text(b" bits: ");

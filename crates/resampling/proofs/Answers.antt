@@ -1,5 +1,5 @@
 -- What the resampler's public functions give, by the tests that lead there. Assumes nothing.
-use Prim.Native.Nat.{ℕ, ◌+◌, ◌-◌, ◌<◌, ◌≤◌}
+use Prim.Native.Nat.{ℕ, max, ◌+◌, ◌-◌, ◌<◌, ◌≤◌}
 use mathlib.Core.Path.{◌≡◌, refl, sym, ap, ◌∙◌}
 use mathlib.Core.Bool.{Bool, true, false, not, ◌||◌, true≢false}
 use mathlib.Core.List.{List, ◌++◌}
@@ -14,10 +14,10 @@ use Rattle.resampling.specs.Design.{most_taps}
 use Rattle.numeric.specs.F64.{zero64}
 use Rattle.refusal.specs.Refusals.{given, refused, first, rate_refused, rates_refused, dsp_rate, highest_rate}
 use Rattle.resampling.specs.Flow.{Filter, Flow, Ran, flow, fed, zero_window}
-use Rattle.resampling.specs.Resample.{State, state, taps_of, filter_of, fresh, max_output_len, too_many, Outcome, outcome, refusal_of, ran_over, ran_into, processed}
+use Rattle.resampling.specs.Resample.{State, state, faster, taps_of, filter_of, fresh, max_output_len, too_many, Outcome, outcome, refusal_of, ran_over, ran_into, processed}
 use Rattle.resampling.specs.FilterRep.{history_of}
 use Rattle.resampling.specs.FlowRep.{filter_in, Run, run, into, fed_into, Copied}
-use Rattle.resampling.specs.ResampleRep.{InRange, Sound}
+use Rattle.resampling.specs.Rates.{InRange, TapsFor}
 use Rattle.resampling.specs.declared.resample.Resampler.{Resampler}
 use Rattle.resampling.proofs.Ring.{history-same}
 use Rattle.resampling.proofs.FlowLaws.{fed-length}
@@ -36,6 +36,11 @@ in-range src dst e =
     let d = neither (ltb dst dsp_rate) (ltb highest_rate dst) both.1 in
     record { src_low = ltb-false _ _ s.0; src_high = ltb-false _ _ s.1; dst_low = ltb-false _ _ d.0; dst_high = ltb-false _ _ d.1 }
 
+-- ---- the taps of a fresh state
+pub taps-are : (src dst : ℕ) {fs n : ℕ} {taps : List Float} → fs ≡ max src dst → TapsFor (eqb src dst) fs n taps → take n taps ≡ taps_of src dst
+unfolding taps_of faster
+taps-are src dst e t = rw (← e) t.are
+
 -- ---- a cleared state
 pub fresh-is : (src dst n : ℕ) (taps : List Float) → n ≤ most_taps → length taps ≡ most_taps → take n taps ≡ taps_of src dst
     → state src dst (flow (history_of n 0 (replicate most_taps zero64)) zero_window zero64 zero64) ≡ fresh src dst
@@ -45,9 +50,9 @@ fresh-is src dst n taps h l e =
     rw (history-same zero64 n most_taps h, k)
 
 -- ---- the filter that a state holds
-pub filter-is : (r : Resampler) → Sound r → filter_in r.n_taps r.taps r.decimating r.step ≡ filter_of r.src_rate r.dst_rate
+pub filter-is : (r : Resampler) → filter_in r.n_taps r.taps r.decimating r.step ≡ filter_of r.src_rate r.dst_rate
 unfolding filter_of
-filter-is r p = rw (p.taps, p.decimating, p.step)
+filter-is r = rw (r.are, r.down, r.quotient)
 
 -- ---- `run` and `process`
 -- a whole input's samples stand at the front of the output

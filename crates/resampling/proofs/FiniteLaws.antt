@@ -21,8 +21,8 @@ use Rattle.refusal.specs.Refusals.{rates_refused}
 use Rattle.refusal.proofs.RefusalLaws.{first-zero}
 use Rattle.resampling.specs.Filter.{newest}
 use Rattle.resampling.specs.Flow.{Filter, Flow, Out, Ran, flow, between, wants, windowed, pushed, emitted, drained, fed}
-use Rattle.resampling.specs.Resample.{State, state, Outcome, taps_of, filter_of, fresh, too_many, refusal_of, ran_over, ran_into, unless_refused, processed}
-use Rattle.resampling.specs.ResampleRep.{InRange}
+use Rattle.resampling.specs.Resample.{State, Outcome, taps_of, filter_of, fresh, too_many, refusal_of, ran_over, ran_into, unless_refused, processed}
+use Rattle.resampling.specs.Rates.{InRange}
 use Rattle.resampling.specs.Finite.{Call, process, reset, gives, behind, written_by, all_finite, window_list, FiniteState, FiniteBehind}
 use Rattle.resampling.proofs.Answers.{in-range}
 use Rattle.resampling.proofs.Place.{either}

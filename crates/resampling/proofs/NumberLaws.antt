@@ -1,13 +1,13 @@
 -- The resampler's state shown number by number, over lists. Assumes nothing.
-use Prim.Native.Nat.{ℕ, suc, ◌+◌, ◌-◌, ◌<◌, ◌≤◌}
+use Prim.Native.Nat.{ℕ, suc, ◌+◌, ◌-◌, ◌<◌}
 use mathlib.Core.Path.{◌≡◌, refl, sym, ap, ◌∙◌}
 use mathlib.Core.Bool.{Bool, true, false}
-use mathlib.Core.List.{List, [], ◌++◌, append-nil, append_assoc}
+use mathlib.Core.List.{List, [], ◌++◌, append-nil}
 use native.Mathlib.Nat.{sub-zero}
 use native.Mathlib.Numerals.{add-one}
 use native.Mathlib.Omega.{arith}
-use lib.ListN.{length, get_or, set, take, replicate, replicate-append-replicate}
-use lib.Seq.{append_snoc, length-take-le, take_all, take-suc-set}
+use lib.ListN.{length, get_or, set, take, replicate}
+use lib.Seq.{append_snoc, length-take-le, take-suc-set}
 use lib.Ieee.{Float, nan}
 use Rattle.numeric.specs.F64.{zero64}
 use Rattle.std.specs.Prelude.{if◌then◌else◌}
@@ -15,27 +15,10 @@ use Rattle.resampling.specs.Design.{lowpass, most_taps}
 use Rattle.resampling.specs.Resample.{taps_of, faster}
 use Rattle.resampling.specs.FilterRep.{ring_back, walk, history_of}
 use Rattle.resampling.specs.FlowRep.{flow_of}
-use Rattle.resampling.specs.ResampleRep.{state_of, Sound}
+use Rattle.resampling.specs.ResampleRep.{state_of}
 use Rattle.resampling.specs.Numbers.{tap_numbers, history_numbers}
 use Rattle.resampling.specs.declared.resample.Resampler.{Resampler}
 use Rattle.resampling.proofs.Ring.{history-length}
-
--- ---- the first n of an array, and 0.0 behind them
-pub clear-start : (xs : List Float) (n : ℕ) → take n xs ≡ take n xs ++ replicate (n - n) zero64
-clear-start xs n =
-    let z : n - n ≡ 0 = omega arith in
-    rw (z, append-nil)
-
-pub clear_step : (xs a : List Float) (n i : ℕ) → n ≤ i → i < length a → take i a ≡ take n xs ++ replicate (i - n) zero64
-    → take (i + 1) (set a i zero64) ≡ take n xs ++ replicate (i + 1 - n) zero64
-clear_step xs a n i l h e =
-    let s : i + 1 - n ≡ i - n + 1 = omega arith in
-    rw (s, add-one i, take-suc-set a i zero64 h, e, append_assoc (take n xs)) (ap (λ (r : List Float). take n xs ++ r) (replicate-append-replicate (i - n) 1 zero64 ∙ rw (add-one (i - n))))
-
-pub clear-end : (xs a : List Float) (n i : ℕ) → i ≡ most_taps → length a ≡ most_taps → take i a ≡ take n xs ++ replicate (i - n) zero64 → a ≡ take n xs ++ replicate (most_taps - n) zero64
-clear-end xs a n i is long e =
-    let all : take i a ≡ a = take_all i a (omega arith) in
-    rw (← is) (sym all ∙ e)
 
 -- ---- a ring, newest first
 pub newest-start : (n pos : ℕ) (ring : List Float) → walk (n - 0) n (ring_back n pos) ring ≡ history_of n pos ring
@@ -56,10 +39,10 @@ newest-end n idx i ring a is =
     let z : n - i ≡ 0 = omega arith in
     rw (z, append-nil, is)
 
--- ---- a sound state's
-module _ (r : Resampler) (s : Sound r) where
+-- ---- a state's
+module _ (r : Resampler) where
   pub taps-length : length (taps_of r.src_rate r.dst_rate) ≡ r.n_taps
-  taps-length = rw (← s.taps) (length-take-le r.n_taps r.taps (omega (arith, s.high, s.taps_long)))
+  taps-length = rw (← r.are) (length-take-le r.n_taps r.taps (omega (arith, r.high, r.taps_long)))
 
   -- where there are taps, the ring has a place
   pub ring-place : 0 < r.n_taps → r.moving.fir_pos < r.n_taps
@@ -67,14 +50,14 @@ module _ (r : Resampler) (s : Sound r) where
   ring-place some = by r.identity refl
     where
       by : (b : Bool) → r.identity ≡ b → r.moving.fir_pos < r.n_taps
-      by false e = s.place e
+      by false e = r.place e
       by true e =
-          let z : length (taps_of r.src_rate r.dst_rate) ≡ 0 = ap (λ (x : Bool). length (if x then [] else lowpass (faster r.src_rate r.dst_rate))) (sym s.identity ∙ e) in
+          let z : length (taps_of r.src_rate r.dst_rate) ≡ 0 = ap (λ (x : Bool). length (if x then [] else lowpass (faster r.src_rate r.dst_rate))) (sym r.equal ∙ e) in
           absurd (omega (arith, z, taps-length, some))
 
   pub taps-shown : (xs : List Float) → xs ≡ take r.n_taps r.taps ++ replicate (most_taps - r.n_taps) zero64 → xs ≡ tap_numbers (state_of r)
   unfolding state_of
-  taps-shown xs is = rw (taps-length, ← s.taps) is
+  taps-shown xs is = rw (taps-length, ← r.are) is
 
   pub history-shown : (newest xs : List Float) → take r.n_taps newest ≡ history_of r.n_taps r.moving.fir_pos r.fir_hist
       → xs ≡ take r.n_taps newest ++ replicate (most_taps - r.n_taps) zero64 → xs ≡ history_numbers (state_of r)

@@ -17,7 +17,7 @@ use Rattle.std.specs.Prelude.{if◌then◌else◌}
 use Rattle.numeric.proofs.Whole.{add-whole, sub-whole, lt-whole, div-whole}
 use Rattle.numeric.specs.Bounds.{non_negative, AtMost}
 use Rattle.numeric.proofs.BoundLaws.{at-most-more, add-at-most, round-at-most}
-use Rattle.resampling.specs.Flow.{Filter, Flow, Out, Ran, ran, wants, windowed, pushed, emitted, drained, fed, zero_window, flow}
+use Rattle.resampling.specs.Flow.{Filter, Flow, Out, Ran, wants, windowed, pushed, emitted, drained, fed, zero_window, flow}
 use Rattle.resampling.specs.Flow.{Reached, Moved}
 use Rattle.resampling.proofs.FlowLaws.{drained-none}
 

@@ -16,7 +16,24 @@ use Rattle.refusal.specs.Refusals.{first, given}
 use Rattle.numeric.specs.Convert.{all_in_range}
 use Rattle.resampling.specs.Flow.{ran, fed}
 use Rattle.resampling.proofs.FlowLaws.{fed-length}
+use Rattle.resampling.specs.ResampleRep.{Sound}
+use Rattle.resampling.specs.declared.resample.Resampler.{Resampler}
 use Rattle.resampling.specs.Resample.{State, state, filter_of, max_output_len, too_many, refusal_of, ran_over, laid, ran_into, Outcome, outcome, processed}
+
+-- ---- a resampler of the code's is sound
+pub sound-of : (r : Resampler) → Sound r
+sound-of r =
+    record {
+      rates = r.rates;
+      identity = r.equal;
+      decimating = r.down;
+      step = r.quotient;
+      high = r.high;
+      taps = r.are;
+      taps_long = r.taps_long;
+      ring_long = r.ring_long;
+      place = r.place;
+    }
 
 -- ---- nothing in, nothing out
 pub ran-none : (s : State) (room : ℕ) → ran_over s room [] ≡ ran [] s.flow

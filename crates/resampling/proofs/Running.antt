@@ -1,5 +1,5 @@
 -- The resampler's loops, turn by turn, over a lent output. Assumes nothing.
-use Prim.Native.Nat.{ℕ, zero, suc, ◌+◌, ◌-◌, ◌<◌, ◌≤◌}
+use Prim.Native.Nat.{ℕ, suc, ◌+◌, ◌-◌, ◌<◌, ◌≤◌}
 use mathlib.Core.Path.{◌≡◌, refl, sym, ap, ◌∙◌}
 use mathlib.Core.Bool.{Bool, true, false}
 use mathlib.Core.List.{List, [], ◌∷◌, ◌++◌, append-nil}
@@ -156,10 +156,7 @@ module _ (f : Filter) (s : Flow) (out : List Float) (at : ℕ) (x z : Float) (t 
   pub both-taken : (u : Run) → wants t.flow ≡ false → u ≡ into t.out t.at (drained f (length t.out - t.at) (pushed f z t.flow)) → u ≡ fed_into f (x ∷ z ∷ []) (run s out at)
   both-taken u w d = d ∙ sym (goes_on f s out at x (z ∷ []) t e w ∙ alone f t.flow t.out t.at z [])
 
--- an odd last sample, and the end
-pub fed-last : (f : Filter) (r : Run) (xs : List Float) (i : ℕ) → i < length xs → length xs ≤ i + 1 → fed_into f (drop i xs) r ≡ fed_into f (get_or xs i nan ∷ []) r
-fed-last f r xs i h l = rw (drop-cons xs i nan h, drop_of_length-le xs {i = suc i} (omega arith))
-
+-- the end
 pub fed-done : (f : Filter) (s : Flow) (out : List Float) (at : ℕ) (xs : List Float) (i : ℕ) → length xs ≤ i → fed_into f (drop i xs) (run s out at) ≡ run s out at
 unfolding fed_into fed
 fed-done f s out at xs i h = rw (drop_of_length-le xs h) (run-nil s out at)

@@ -6,6 +6,7 @@ pub mod FilterRep
 pub mod Flow
 pub mod FlowRep
 pub mod Resample
+pub mod Rates
 pub mod ResampleRep
 pub mod Finite
 pub mod Numbers

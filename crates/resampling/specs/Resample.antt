@@ -1,6 +1,6 @@
 -- The resampler (resample.rs) between 8,000 and another rate. What it does with its samples is said in specs/Flow.antt, and how the
 -- code holds its state in specs/ResampleRep.antt. Assumes nothing.
-use Rattle.std.specs.Prelude.{ℕ, zero, suc, Bool, not, List, [], ◌++◌, length, take, drop, replicate, ltb, eqb, Float}
+use Rattle.std.specs.Prelude.{ℕ, zero, suc, Bool, not, List, [], ◌++◌, length, take, drop, replicate, max, ltb, eqb, Float}
 use Rattle.numeric.specs.F64.{◌⊘◌, whole, zero64}
 use Rattle.std.specs.Prelude.{if◌then◌else◌}
 use Rattle.numeric.specs.Counts.{output_len}
@@ -22,7 +22,7 @@ state s d f = record { src = s; dst = d; flow = f }
 -- ---- the rates
 -- the filter runs at the faster rate
 unfoldable pub faster : ℕ → ℕ → ℕ
-faster a b = if ltb b a then a else b
+faster a b = max a b
 
 abbrev pub equal_rates : State → Bool
 equal_rates s = eqb s.src s.dst

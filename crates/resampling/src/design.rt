@@ -1,10 +1,11 @@
 // The low-pass filter's taps at a rate.
-ghost use Rattle.std.specs.Prelude.{◌≡◌, map, ◌≤◌, ◌<◌, length, take, replicate};
-ghost use Rattle.numeric.specs.F64.{zero64, ◌⊘◌};
+ghost use Rattle.std.specs.Prelude.{◌≡◌, map, ◌≤◌, ◌<◌, length, take};
+ghost use Rattle.numeric.specs.F64.{◌⊘◌};
 ghost use Rattle.numeric.specs.Counts.{tap_count};
 ghost use Rattle.refusal.specs.Refusals.{highest_rate};
 ghost use Rattle.resampling.specs.Design.{most_taps, cutoff_of, sinc, blackman, raw_tap, raw_taps, total, lowpass};
 
+use numeric::arrays::filled;
 use numeric::compare::absolute;
 use numeric::counts::nearest;
 use numeric::sine::{PI, TAU, cosine, sine};
@@ -60,21 +61,13 @@ fn raw_tap(fs: u32, n: usize, i: usize) -> f64
     s * blackman_at(k / m)
 }
 
-pub fn zeros() -> [f64; MAX_TAPS]
-    ensures { result ≡ replicate most_taps zero64 }
-{
-    [0.0f64; MAX_TAPS]
-}
-
 fn raw_taps(fs: u32, n: usize) -> [f64; MAX_TAPS]
     requires { (n ≡ tap_count fs) × (n ≤ most_taps) }
     ensures { take n result ≡ raw_taps fs }
 {
-    let mut taps = zeros();
-    let mut i = 0;
-    while i < n {
+    let mut taps = filled(0.0);
+    for i in 0..n {
         taps[i] = raw_tap(fs, n, i);
-        i += 1;
     }
     taps
 }
@@ -84,25 +77,20 @@ fn sum_of(taps: &[f64; MAX_TAPS], n: usize) -> f64
     ensures { result ≡ total (take n taps.now) }
 {
     let mut sum = 0.0;
-    let mut i = 0;
-    while i < n {
+    for i in 0..n {
         sum = sum + taps[i];
-        i += 1;
     }
     sum
 }
 
-fn normalise(taps: [f64; MAX_TAPS], n: usize, sum: f64) -> [f64; MAX_TAPS]
+fn normalise(mut taps: [f64; MAX_TAPS], n: usize, sum: f64) -> [f64; MAX_TAPS]
     requires { n ≤ most_taps }
     ensures { take n result ≡ map (λ x. x ⊘ sum) (take n taps) }
 {
-    let mut out = taps;
-    let mut i = 0;
-    while i < n {
-        out[i] = out[i] / sum;
-        i += 1;
+    for i in 0..n {
+        taps[i] = taps[i] / sum;
     }
-    out
+    taps
 }
 
 pub fn design_lowpass(fs: u32, n: usize) -> [f64; MAX_TAPS]

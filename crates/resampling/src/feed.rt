@@ -6,7 +6,6 @@ ghost use Rattle.resampling.specs.FlowRep.{AllDrained, AllFed, AllInterpolated, 
 use crate::design::MAX_TAPS;
 use crate::filter::filter_all;
 use crate::sample::{Moving, emit, push_ahead, push_known, push_one, slide};
-use numeric::ends::smaller;
 
 // How much of the output is written, and what moved.
 #[derive(Clone, Copy)]
@@ -100,6 +99,7 @@ fn feed_pairs(
 {
     let mut moving = m;
     let mut at = 0;
+    // Two at a time, for speed: their sums stand side by side. A `for` would count pairs, and each place were twice the count.
     let mut i = 0;
     while i + 1 < input.len() {
         let d = feed_two(
@@ -135,16 +135,13 @@ fn interpolate_all(step: f64, m: Moving, input: &[f64], output: &mut [f64]) -> D
 {
     let mut moving = m;
     let mut at = 0;
-    let mut i = 0;
-    while i < input.len() {
-        let pos = moving.fir_pos;
-        let d = drain(step, slide(moving, pos, input[i]), output, at);
+    for x in input {
+        let d = drain(step, slide(moving, moving.fir_pos, *x), output, at);
         moving = d.moving;
         at = d.at;
         if moving.n_pushed - 2.0 > moving.frac_pos {
             return Drained { at, moving };
         }
-        i += 1;
     }
     Drained { at, moving }
 }
@@ -165,12 +162,14 @@ fn feed_rising(
     ensures placed { Placed n result.moving.fir_pos taps.now hist.new }
 {
     let d = interpolate_all(step, m, input, output);
-    let at = d.at;
-    let pos = m.fir_pos;
-    let next = filter_all(taps, hist, n, pos, &mut output[..at]);
-    let mut moving = d.moving;
-    moving.fir_pos = next;
-    Drained { at, moving }
+    let fir_pos = filter_all(taps, hist, n, m.fir_pos, &mut output[..d.at]);
+    Drained {
+        at: d.at,
+        moving: Moving {
+            fir_pos,
+            ..d.moving
+        },
+    }
 }
 
 // ---- either way
@@ -201,11 +200,7 @@ pub fn feed(
 pub fn copy(input: &[f64], output: &mut [f64]) -> usize
     ensures { Copied input.now output.old output.new result }
 {
-    let n = smaller(output.len(), input.len());
-    let mut i = 0;
-    while i < n {
-        output[i] = input[i];
-        i += 1;
-    }
+    let n = output.len().min(input.len());
+    output[..n].copy_from_slice(&input[..n]);
     n
 }

@@ -20,6 +20,9 @@ pub fn ring_next(n: usize, pos: usize) -> usize
     if next >= n { 0 } else { next }
 }
 
+// `Placed` is asked of each function from here on: the history alone is lent to be written, and its place goes by value with what moves, so that
+// no struct could hold all that it speaks of without being taken apart at each sample.
+
 // The filter's output over a ring of n whose newest sample is at pos.
 fn fir_sum(taps: &[f64; MAX_TAPS], hist: &[f64; MAX_TAPS], n: usize, pos: usize) -> f64
     requires { Placed n pos taps.now hist.now }
@@ -27,11 +30,9 @@ fn fir_sum(taps: &[f64; MAX_TAPS], hist: &[f64; MAX_TAPS], n: usize, pos: usize)
 {
     let mut acc = 0.0;
     let mut idx = pos;
-    let mut i = 0;
-    while i < n {
+    for i in 0..n {
         acc = acc + taps[i] * hist[idx];
         idx = ring_back(n, idx);
-        i += 1;
     }
     acc
 }
@@ -59,15 +60,13 @@ pub fn fir_sums(
     let mut first = 0.0;
     let mut second = 0.0 + taps[0] * later;
     let mut idx = pos;
-    let mut i = 0;
-    while i + 1 < n {
+    for i in 0..n - 1 {
         let x = hist[idx];
         first = first + taps[i] * x;
         second = second + taps[i + 1] * x;
         idx = ring_back(n, idx);
-        i += 1;
     }
-    first = first + taps[i] * hist[idx];
+    first = first + taps[n - 1] * hist[idx];
     Two { first, second }
 }
 
@@ -117,6 +116,7 @@ pub fn filter_all(
     ensures { AllFiltered n pos result taps.now samples.old hist.old hist.new samples.new }
 {
     let mut place = pos;
+    // As in `feed_pairs`.
     let mut i = 0;
     while i + 1 < samples.len() {
         let y = fir_push_two(taps, hist, n, place, samples[i], samples[i + 1]);

@@ -4,21 +4,20 @@ ghost use Rattle.numeric.specs.F64.{zero64};
 ghost use Rattle.resampling.specs.Design.{most_taps};
 ghost use Rattle.resampling.specs.FilterRep.{history_of};
 
-use crate::design::{MAX_TAPS, zeros};
+use crate::design::MAX_TAPS;
 use crate::filter::ring_back;
+use numeric::arrays::filled;
 
 // The samples of a ring of n, newest first, where the next one goes to pos.
 pub fn newest_first(ring: [f64; MAX_TAPS], n: usize, pos: usize) -> [f64; MAX_TAPS]
     requires { (n ≤ most_taps) × (0 < n → pos < n) }
     ensures { take n result ≡ history_of n pos ring }
 {
-    let mut a = zeros();
+    let mut a = filled(0.0);
     let mut idx = pos;
-    let mut i = 0;
-    while i < n {
+    for i in 0..n {
         idx = ring_back(n, idx);
         a[i] = ring[idx];
-        i += 1;
     }
     a
 }
@@ -29,10 +28,6 @@ pub fn cleared(xs: [f64; MAX_TAPS], n: usize) -> [f64; MAX_TAPS]
     ensures { result ≡ take n xs ++ replicate (most_taps - n) zero64 }
 {
     let mut a = xs;
-    let mut i = n;
-    while i < MAX_TAPS {
-        a[i] = 0.0;
-        i += 1;
-    }
+    a[n..].fill(0.0);
     a
 }

@@ -8,12 +8,10 @@ use numeric::convert::wide_in_range;
 pub fn all_in_range(samples: &[f64]) -> bool
     ensures { result ≡ all_in_range samples.now }
 {
-    let mut i = 0;
-    while i < samples.len() {
-        if !wide_in_range(samples[i]) {
+    for x in samples {
+        if !wide_in_range(*x) {
             return false;
         }
-        i += 1;
     }
     true
 }

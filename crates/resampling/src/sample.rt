@@ -19,18 +19,25 @@ pub struct Moving {
     pub n_pushed: f64,
 }
 
+// As it is before the first sample.
+pub const UNMOVED: Moving = Moving {
+    fir_pos: 0,
+    herm_hist: [0.0; 4],
+    frac_pos: 0.0,
+    n_pushed: 0.0,
+};
+
 // A sample into the window, where the next one for the filter goes to the place `next`.
 pub fn slide(m: Moving, next: usize, y: f64) -> Moving
     ensures by_index { (n : ℕ) → (ring : List Float) → flow_of n ring result ≡ windowed (flow_of n ring m) (history_of n next ring) y }
     ensures fir_pos_value { result.fir_pos ≡ next }
 {
     let w = m.herm_hist;
-    let window = [w[1], w[2], w[3], y];
     Moving {
         fir_pos: next,
-        herm_hist: window,
-        frac_pos: m.frac_pos,
+        herm_hist: [w[1], w[2], w[3], y],
         n_pushed: m.n_pushed + 1.0,
+        ..m
     }
 }
 
@@ -48,8 +55,7 @@ pub fn push_one(
 {
     let pos = m.fir_pos;
     let y = fir_push(taps, hist, n, pos, x);
-    let next = ring_next(n, pos);
-    slide(m, next, y)
+    slide(m, ring_next(n, pos), y)
 }
 
 // What moved, and the filter's output for the sample after.
@@ -92,8 +98,7 @@ pub fn push_known(hist: &mut [f64; MAX_TAPS], n: usize, m: Moving, x: f64, y: f6
 {
     let pos = m.fir_pos;
     hist[pos] = x;
-    let next = ring_next(n, pos);
-    slide(m, next, y)
+    slide(m, ring_next(n, pos), y)
 }
 
 // An output sample, and what moved.
@@ -108,15 +113,11 @@ pub fn emit(step: f64, m: Moving) -> Emitted
     ensures one_emitted { OneEmitted step m result }
     ensures fir_pos_value { result.moving.fir_pos ≡ m.fir_pos }
 {
-    let w = m.herm_hist;
     let k_base = m.n_pushed - 3.0;
-    let t = m.frac_pos - k_base;
-    let y = hermite(w, t);
+    let y = hermite(m.herm_hist, m.frac_pos - k_base);
     let moving = Moving {
-        fir_pos: m.fir_pos,
-        herm_hist: w,
         frac_pos: m.frac_pos + step,
-        n_pushed: m.n_pushed,
+        ..m
     };
     Emitted { y, moving }
 }

@@ -1,23 +1,14 @@
 -- What the sender is asked for, from what its calls ensure. Assumes nothing.
-use Rattle.std.proofs.Common.{◌≡◌, ℕ, ◌+◌, ◌-◌, ◌<◌, ◌≤◌, min, Bool, true, false, not, ltb, List, [], ◌∷◌, length, take, drop, sym, refl, ap, ◌∙◌, true≢false, le_of_lt, arith, length-drop, length-take-le, take_all, ltb-false, ltb-true}
+use Rattle.refusal.specs.declared.Refusal.{Refusal}
+use Rattle.std.specs.Prelude.{Result, Ok, Err, is_ok}
+use Rattle.std.proofs.Common.{◌≡◌, ℕ, ◌+◌, ◌-◌, ◌<◌, ◌≤◌, min, Bool, true, false, ltb, List, [], ◌∷◌, length, take, drop, sym, refl, ap, ◌∙◌, true≢false, le_of_lt, arith, length-drop, length-take-le, take_all, ltb-false, ltb-true}
 use lib.Seq.{take-length}
 use lib.Ieee.{Float}
-use Rattle.refusal.specs.Refusals.{Reply, acceptance_of, is_accepted}
-use Rattle.refusal.specs.declared.Acceptance.{Acceptance}
-use Rattle.refusal.specs.declared.Acceptance.TheVariants as acceptance
+use Rattle.refusal.specs.Refusals.{Reply, reply_in}
 use Rattle.modulation.specs.Requests.{Request}
 use Rattle.modulation.specs.Tx.{Sender, Adjusted, adjusted, amplitude_of, reading, read_of}
 use Rattle.modulation.specs.Queueing.{Queueing, queueing, requested, write_of, idle_mark_of}
 use Rattle.send_app.specs.Call.{half, opened_of, sent, next_part, queued_to, queued_more, block_of}
-
--- a test that is asked the other way round
-pub was-false : (b : Bool) → not b ≡ true → b ≡ false
-was-false true e = sym e
-was-false false e = refl
-
-pub was-true : (b : Bool) → not b ≡ false → b ≡ true
-was-true true e = refl
-was-true false e = sym e
 
 -- the sender that a request leaves
 after : {a : Reply Unit} (s : Sender) {s' : Sender} (r : Request) → queueing a s' ≡ requested s r → s' ≡ (requested s r).state
@@ -50,23 +41,23 @@ pub part_length : (text : List ℕ) (at k : ℕ) → k ≡ min 64 (length text -
 part_length text at k e = ap length (sym (part-is text at k e)) ∙ length-take-le k (drop at text) (omega (arith, length-drop at text))
 
 -- an accepted part is queued, and a refused one is asked for again
-pub goes_on : (b : Acceptance) (at n end : ℕ) → end ≡ at + n → is_accepted b ≡ true → queued_to (acceptance_of b) at n ≡ end
-goes_on acceptance.Accepted at n end e t = sym e
-goes_on (acceptance.Refused r) at n end e t = absurd (true≢false (sym t))
+pub goes_on : (b : Result Unit Refusal) (at n end : ℕ) → end ≡ at + n → is_ok b ≡ true → queued_to (reply_in b) at n ≡ end
+goes_on (Ok tt) at n end e t = sym e
+goes_on (Err r) at n end e t = absurd (true≢false (sym t))
 
-pub asks-again : (b : Acceptance) (at n : ℕ) → is_accepted b ≡ false → queued_to (acceptance_of b) at n ≡ at
-asks-again acceptance.Accepted at n t = absurd (true≢false t)
-asks-again (acceptance.Refused r) at n t = refl
+pub asks-again : (b : Result Unit Refusal) (at n : ℕ) → is_ok b ≡ false → queued_to (reply_in b) at n ≡ at
+asks-again (Ok tt) at n t = absurd (true≢false t)
+asks-again (Err r) at n t = refl
 
-module _ (s : Sender) {s' : Sender} (a : Acceptance) (text part : List ℕ) (at : ℕ) (p : part ≡ next_part text at) (q : queueing (acceptance_of a) s' ≡ write_of s part) where
-  at-answer : (n : ℕ) → queued_to (acceptance_of a) at (length (next_part text at)) ≡ n → sent s' n [] ≡ queued_more s text at
+module _ (s : Sender) {s' : Sender} (a : Result Unit Refusal) (text part : List ℕ) (at : ℕ) (p : part ≡ next_part text at) (q : queueing (reply_in a) s' ≡ write_of s part) where
+  at-answer : (n : ℕ) → queued_to (reply_in a) at (length (next_part text at)) ≡ n → sent s' n [] ≡ queued_more s text at
   unfolding queued_more
-  at-answer n e = let is : queueing (acceptance_of a) s' ≡ write_of s (next_part text at) = q ∙ ap (write_of s) p in rw (← is, e)
+  at-answer n e = let is : queueing (reply_in a) s' ≡ write_of s (next_part text at) = q ∙ ap (write_of s) p in rw (← is, e)
 
-  pub queued-yes : (end : ℕ) → end ≡ at + length (next_part text at) → is_accepted a ≡ true → sent s' end [] ≡ queued_more s text at
+  pub queued-yes : (end : ℕ) → end ≡ at + length (next_part text at) → is_ok a ≡ true → sent s' end [] ≡ queued_more s text at
   queued-yes end e y = at-answer end (goes_on a at _ end e y)
 
-  pub queued-no : is_accepted a ≡ false → sent s' at [] ≡ queued_more s text at
+  pub queued-no : is_ok a ≡ false → sent s' at [] ≡ queued_more s text at
   queued-no n = at-answer at (asks-again a at _ n)
 
 -- a block: what is queued, then what is read

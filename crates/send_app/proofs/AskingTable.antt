@@ -1,7 +1,8 @@
 -- What the table's sender is asked for, from what its calls ensure. Assumes nothing.
+use Rattle.refusal.specs.declared.Refusal.{Refusal}
+use Rattle.std.specs.Prelude.{Result, is_ok}
 use Rattle.std.proofs.Common.{◌≡◌, ℕ, ◌+◌, true, false, List, [], ◌∷◌, ◌++◌, length, ℤ, refl, ap, ◌∙◌}
-use Rattle.refusal.specs.Refusals.{Reply, acceptance_of, is_accepted}
-use Rattle.refusal.specs.declared.Acceptance.{Acceptance}
+use Rattle.refusal.specs.Refusals.{Reply, reply_in}
 use Rattle.bell103.specs.declared.Role.{Role}
 use Rattle.framing.specs.Framing.{marks, frames_of}
 use Rattle.modulation.specs.Requests.{Request, write, idle_mark}
@@ -23,16 +24,16 @@ pub opened-table-is : {a b c d : Reply Unit} (s : TableSender) {s₁ s₂ s₃ s
 unfolding opened_table
 opened-table-is s p q r t = after _ _ t ∙ on _ (after _ _ r ∙ on _ (after _ _ q ∙ on _ (after _ _ p)))
 
-module _ (s : TableSender) {s' : TableSender} (a : Acceptance) (text part : List ℕ) (at : ℕ) (p : part ≡ next_part text at) (q : table_queueing (acceptance_of a) s' ≡ table_requested s (write part)) where
-  at-answer : (n : ℕ) → queued_to (acceptance_of a) at (length (next_part text at)) ≡ n → table_sent s' n [] ≡ table_queued s text at
+module _ (s : TableSender) {s' : TableSender} (a : Result Unit Refusal) (text part : List ℕ) (at : ℕ) (p : part ≡ next_part text at) (q : table_queueing (reply_in a) s' ≡ table_requested s (write part)) where
+  at-answer : (n : ℕ) → queued_to (reply_in a) at (length (next_part text at)) ≡ n → table_sent s' n [] ≡ table_queued s text at
   unfolding table_queued
   at-answer n e =
-      let is : table_queueing (acceptance_of a) s' ≡ table_requested s (write (next_part text at)) = q ∙ ap (λ (z : List ℕ). table_requested s (write z)) p in rw (← is, e)
+      let is : table_queueing (reply_in a) s' ≡ table_requested s (write (next_part text at)) = q ∙ ap (λ (z : List ℕ). table_requested s (write z)) p in rw (← is, e)
 
-  pub table-yes : (end : ℕ) → end ≡ at + length (next_part text at) → is_accepted a ≡ true → table_sent s' end [] ≡ table_queued s text at
+  pub table-yes : (end : ℕ) → end ≡ at + length (next_part text at) → is_ok a ≡ true → table_sent s' end [] ≡ table_queued s text at
   table-yes end e y = at-answer end (goes_on a at _ end e y)
 
-  pub table-no : is_accepted a ≡ false → table_sent s' at [] ≡ table_queued s text at
+  pub table-no : is_ok a ≡ false → table_sent s' at [] ≡ table_queued s text at
   table-no n = at-answer at (asks-again a at _ n)
 
 -- a block: what is queued, then what is read

@@ -1,5 +1,5 @@
 -- Samples' bytes at the front of a list, one sample after the other. Assumes nothing.
-use Rattle.std.proofs.Common.{◌≡◌, ℕ, suc, ◌+◌, ◌-◌, ◌*◌, ◌/◌, ◌%◌, ◌<◌, ◌≤◌, List, [], ◌∷◌, ◌++◌, length, get_or, take, set, ℤ, sym, refl, ap, ◌∙◌, subst, append_assoc, append-nil, mul-zero, mul-one, mul-add, arith, length-set, take-suc, take-suc-set}
+use Rattle.std.proofs.Common.{◌≡◌, ℕ, suc, ◌+◌, ◌*◌, ◌/◌, ◌%◌, ◌<◌, ◌≤◌, List, [], ◌∷◌, ◌++◌, length, get_or, take, set, ℤ, sym, refl, ap, ◌∙◌, subst, append_assoc, append-nil, mul-zero, mul-one, mul-add, arith, length-set, take-suc, take-suc-set}
 use lib.Seq.{take-length}
 use lib.Ieee.{Float, binary32, to_bits}
 use Rattle.wav.specs.Recording.{two, four}
@@ -58,9 +58,6 @@ word-placed xs at x e f = e ∙ ap (λ (n : ℕ). with_word xs at n) f
 
 pub half-placed : (xs : List ℕ) (at : ℕ) (x : Float) {n : ℕ} {r : List ℕ} → r ≡ with_half xs at n → n ≡ pcm16_of x → r ≡ placed kind.Pcm16 xs at x
 half-placed xs at x e f = e ∙ ap (λ (n : ℕ). with_half xs at n) f
-
-pub width-at : {k q : Kind} {n : ℕ} (i : ℕ) → k ≡ q → n ≡ width_of q * i → n ≡ width_of k * i
-width-at i e h = rw e h
 
 pub room : (k : Kind) (i n : ℕ) → i < n → n ≤ 1024 → width_of k * i + width_of k ≤ 4096
 room kind.Float i n h l = omega arith

@@ -3,9 +3,7 @@ use Rattle.std.proofs.Common.{◌≡◌, ℕ, ◌*◌, false, List, ◌∷◌, �
 use Rattle.refusal.specs.Refusals.{rate_refused}
 use Rattle.wav.specs.Words.{is_endless}
 use Rattle.wav.specs.Wav.{fresh_wav}
-use Rattle.wav.specs.Recording.{Frame, Frames, frame_bytes, samples, header, Others, Proper, Tells}
-use Rattle.wav.specs.declared.sample.Encoding.{Encoding}
-use Rattle.wav.specs.declared.sample.Encoding.TheVariants as coding
+use Rattle.wav.specs.Recording.{Frame, Frames, frame_bytes, samples, header, Others, Tells}
 use Rattle.wav.specs.declared.wav.Out.TheVariants as out
 use Rattle.wav.proofs.Recorded.{recorded}
 use Rattle.send_app.specs.Header.{width_of, encoding_for, recording_of, header_of}

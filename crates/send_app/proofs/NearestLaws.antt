@@ -1,7 +1,7 @@
 -- A NaN's bits, and the nearest number of 16 bits. Assumes nothing.
-use Rattle.std.proofs.Common.{◌≡◌, ℕ, suc, ◌+◌, ◌-◌, ◌*◌, ◌/◌, ◌^◌, ◌<◌, ◌≤◌, min, Bool, true, false, not, T, ltb, ℤ, pos, sym, refl, ap, ◌∙◌, subst, true≢false, lt_of_lt_of_le, lt_of_le_of_lt, mul-le-mul_right, div-lt_iff_lt-mul, mul-one, arith, lit<, lit≤, ltb-true, lt-ltb, eq-eqb}
+use Rattle.std.proofs.Common.{◌≡◌, ℕ, ◌+◌, ◌-◌, ◌*◌, ◌/◌, ◌^◌, ◌<◌, ◌≤◌, min, true, false, T, ltb, ℤ, pos, sym, refl, subst, lt_of_le_of_lt, div-lt_iff_lt-mul, arith, lit<, ltb-true, lt-ltb, eq-eqb}
 use mathlib.Core.Bool.{false≢true}
-use lib.Ieee.{Float, nan, inf, fin, up, down, lt, eq, ne, of_bits, to_bits, neg, to_unsigned, binary32, binary64}
+use lib.Ieee.{Float, nan, inf, fin, up, down, lt, eq, ne, of_bits, to_bits, to_unsigned, binary32, binary64}
 use lib.Ieee.Fits.{down_pos}
 
 abbrev twice : Float

@@ -4,7 +4,7 @@ ghost use Rattle.std.specs.Float.{binary32};
 ghost use Rattle.send_app.specs.Header.{width_of};
 ghost use Rattle.send_app.specs.Bytes.{nearest16, pcm16_of, sixteen_of, with_half, placed, block_bytes, table_bytes};
 
-use crate::header::{byte_0, byte_1, put_word};
+use crate::header::put_word;
 use crate::words::Kind;
 use numeric::convert::widen;
 
@@ -19,13 +19,13 @@ fn pattern_of(x: f32) -> u32
 }
 
 // The whole number nearest to 32,767 y, for a y from 0 to 1: twice that is a number that an f64 holds.
-fn nearest_16(y: f64) -> u32
+fn nearest_16(y: f64) -> u16
     ensures { (result ≡ nearest16 y) × (result < 32768) }
 {
     let twice = y * 65534.0;
     if twice > -1.0 {
         if twice < 65534.0 {
-            return ((std::num::truncating_f64_to_u64(twice) + 1) / 2) as u32;
+            return ((std::num::truncating_f64_to_u64(twice) + 1) / 2) as u16;
         }
         return 32767;
     }
@@ -33,24 +33,25 @@ fn nearest_16(y: f64) -> u32
 }
 
 // The same with a sign, in two's complement.
-fn pcm_16(x: f32) -> u32
-    ensures { (result ≡ pcm16_of x) × (result < 65536) }
+#[tactic(auto, unfolding(crate::specs::Bytes::pcm16_of))]
+fn pcm_16(x: f32) -> u16
+    ensures { result ≡ pcm16_of x }
 {
     let y = widen(x);
     if y < 0.0 {
-        let n = nearest_16(-y);
-        return (65536 - n) % 65536;
+        return nearest_16(-y).wrapping_neg();
     }
     nearest_16(y)
 }
 
-// Two bytes, from `at` on.
-fn put_half(bytes: &mut [u8], at: usize, n: u32)
-    requires { (at + 2 ≤ length bytes.old) × (n < 65536) }
+// Two bytes, from `at` on, low byte first.
+fn put_half(bytes: &mut [u8], at: usize, n: u16)
+    requires { at + 2 ≤ length bytes.old }
     ensures { bytes.new ≡ with_half bytes.old at n }
 {
-    bytes[at] = byte_0(n);
-    bytes[at + 1] = byte_1(n);
+    let [b0, b1] = n.to_le_bytes();
+    bytes[at] = b0;
+    bytes[at + 1] = b1;
 }
 
 // A sample's bytes, from `at` on.
@@ -81,22 +82,17 @@ pub fn pack(kind: Kind, samples: &[f32], bytes: &mut [u8; 4096])
     ensures bytes_after { take (width_of kind * length samples.now) bytes.new ≡ block_bytes kind samples.now }
     ensures bytes_len { length bytes.new ≡ 4096 }
 {
-    let mut i = 0;
-    while i < samples.len() {
+    for i in 0..samples.len() {
         put_sample(kind, bytes, offset(kind, i), samples[i]);
-        i += 1;
     }
 }
 
 // The sixteen bits of a whole number, in two's complement.
-fn sixteen_bits(x: i32) -> u32
-    ensures { (result ≡ sixteen_of x) × (result < 65536) }
+#[tactic(auto, unfolding(crate::specs::Bytes::sixteen_of))]
+fn sixteen_bits(x: i32) -> u16
+    ensures { result ≡ sixteen_of x }
 {
-    if x < 0 {
-        let k = (-1 - x) as u32;
-        return 65535 - k % 65536;
-    }
-    x as u32 % 65536
+    (x.cast_unsigned() % 65536) as u16
 }
 
 // The bytes of a block of the table's samples, at the front.
@@ -105,10 +101,8 @@ pub fn pack_table(samples: &[i32], bytes: &mut [u8; 4096])
     ensures bytes_after { take (2 * length samples.now) bytes.new ≡ table_bytes samples.now }
     ensures bytes_len { length bytes.new ≡ 4096 }
 {
-    let mut i = 0;
-    while i < samples.len() {
+    for i in 0..samples.len() {
         let x = samples[i];
         put_half(bytes, 2 * i, sixteen_bits(x));
-        i += 1;
     }
 }

@@ -1,6 +1,6 @@
 // The call: idle mark, a training character, idle mark, a bare line end, the text, idle mark.
-ghost use Rattle.std.specs.Prelude.{◌≡◌, ◌+◌, ◌-◌, ◌*◌, ◌<◌, ◌≤◌, min, true, [], length};
-ghost use Rattle.modulation.specs.TxRep.{sender_of, TxSound};
+ghost use Rattle.std.specs.Prelude.{◌≡◌, ◌+◌, ◌-◌, ◌*◌, ◌≤◌, min, [], length, IfOk, IfErr};
+ghost use Rattle.modulation.specs.TxRep.{sender_of};
 ghost use Rattle.send_app.specs.Call.{call_of, bit_periods, opened_of, sent, queued_more, block_of};
 
 use crate::bytes::{offset, pack};
@@ -8,7 +8,7 @@ use crate::header::{header_float, header_pcm};
 use crate::words::Kind;
 use bell103::Role;
 use modulation::Tx;
-use refusal::{Counted, is_accepted};
+use refusal::Refusal;
 
 // Half of full scale: the resampler's interpolation overshoots what it is given, and a board refuses a sample beyond 1.
 const AMPLITUDE: f32 = 0.5;
@@ -34,8 +34,7 @@ pub fn bits_for(text: &[u8]) -> usize
 
 // What stands before the text, in an empty queue.
 fn opened(tx: Tx) -> Tx
-    requires { TxSound tx }
-    ensures { (sender_of result ≡ opened_of (sender_of tx)) × TxSound result }
+    ensures { sender_of result ≡ opened_of (sender_of tx) }
 {
     let a = tx.set_amplitude(AMPLITUDE);
     let quiet = a.state;
@@ -49,51 +48,34 @@ fn opened(tx: Tx) -> Tx
     e.state
 }
 
-// The sender, how many bytes of the text are queued, and whether all was written.
+// The sender, and how many bytes of the text are queued.
 #[derive(Clone, Copy)]
 struct Sending {
     tx: Tx,
     at: usize,
-    well: bool,
 }
 
 // The next 64 bytes of the text at the most, if the queue has room for them.
 fn queue_more(s: Sending, text: &[u8]) -> Sending
-    requires { TxSound s.tx × (s.at ≤ length text.now) }
+    requires { s.at ≤ length text.now }
     ensures at_value { sent (sender_of result.tx) result.at [] ≡ queued_more (sender_of s.tx) text.now s.at }
-    ensures tx_sound { TxSound result.tx × (result.at ≤ length text.now) }
+    ensures at_in_bounds { result.at ≤ length text.now }
 {
-    let tx = s.tx;
-    let at = s.at;
-    let end = end_of(at, text.len());
-    let q = tx.write(&text[at..end]);
+    let end = end_of(s.at, text.len());
+    let q = s.tx.write(&text[s.at..end]);
     let answer = q.answer;
     let state = q.state;
-    if is_accepted(answer) {
-        return Sending {
-            tx: state,
-            at: end,
-            well: true,
-        };
+    if answer.is_ok() {
+        return Sending { tx: state, at: end };
     }
-    Sending {
-        tx: state,
-        at,
-        well: true,
-    }
+    Sending { tx: state, ..s }
 }
 
 pub fn end_of(at: usize, len: usize) -> usize
     requires { at ≤ len }
     ensures { (result ≡ at + min 64 (len - at)) × (at ≤ result) × (result ≤ len) }
 {
-    if len - at < 64 { len } else { at + 64 }
-}
-
-fn zeros_1024() -> [f32; 1024]
-    ensures { length result ≡ 1024 }
-{
-    [0.0f32; 1024]
+    at + (len - at).min(64)
 }
 
 // Writes the samples to standard output; whether that went well.
@@ -106,83 +88,45 @@ fn write_samples(kind: Kind, samples: &[f32]) -> bool
     io::write_all(1, &bytes[..n])
 }
 
-// The next samples, into the part and to standard output.
-fn send_part(s: Sending, kind: Kind, text: &[u8], part: &mut [f32]) -> Sending
-    requires { TxSound s.tx × (s.at ≤ length text.now) × (length part.old ≤ 1024) }
+// The next samples, into the part.
+fn read_part(s: Sending, text: &[u8], part: &mut [f32]) -> Sending
+    requires { s.at ≤ length text.now }
     ensures part_after { sent (sender_of result.tx) result.at part.new ≡ block_of (sender_of s.tx) text.now s.at part.old }
-    ensures tx_sound { TxSound result.tx × (result.at ≤ length text.now) }
+    ensures at_in_bounds { result.at ≤ length text.now }
 {
     let q = queue_more(s, text);
-    let tx = q.tx;
-    let at = q.at;
-    let r = tx.read(part);
-    let well = write_samples(kind, part);
-    let state = r.state;
-    Sending {
-        tx: state,
-        at,
-        well,
-    }
+    let r = q.tx.read(part);
+    Sending { tx: r.state, ..q }
 }
 
-// The next n samples.
-fn send_block(s: Sending, kind: Kind, text: &[u8], n: usize) -> Sending
-    requires { TxSound s.tx × (s.at ≤ length text.now) × (n ≤ 1024) }
-    ensures { TxSound result.tx × (result.at ≤ length text.now) }
+// So many samples of the call, as far as they can be written: how many were, all of them or not. Idle mark follows the text by itself: a
+// sender whose queue is empty holds it.
+fn send_samples(tx: Tx, kind: Kind, text: &[u8], samples: usize) -> Result<usize, usize>
+    ensures all { IfOk result (λ sent. sent ≡ samples) }
+    ensures some { IfErr result (λ sent. sent ≤ samples) }
 {
-    let mut block = zeros_1024();
-    send_part(s, kind, text, &mut block[..n])
-}
-
-pub fn block_of(left: usize) -> usize
-    ensures { (result ≤ 1024) × (result ≤ left) × (0 < left → 0 < result) }
-{
-    if left < 1024 { left } else { 1024 }
-}
-
-// How many samples were sent, and whether all of them were written.
-#[derive(Clone, Copy)]
-pub struct Ended {
-    pub sent: usize,
-    pub well: bool,
-}
-
-// So many samples of the call, as far as they can be written. Idle mark follows the text by itself: a sender whose queue is empty holds it.
-fn send_samples(tx: Tx, kind: Kind, text: &[u8], samples: usize) -> Ended
-    requires { TxSound tx }
-    ensures { (result.sent ≤ samples) × (result.well ≡ true → result.sent ≡ samples) }
-{
-    let mut s = Sending {
-        tx,
-        at: 0,
-        well: true,
-    };
+    let mut s = Sending { tx, at: 0 };
     let mut sent = 0;
     while sent < samples {
-        let n = block_of(samples - sent);
-        s = send_block(s, kind, text, n);
-        if !s.well {
-            return Ended { sent, well: false };
+        let n = (samples - sent).min(1024);
+        let mut block = [0.0f32; 1024];
+        s = read_part(s, text, &mut block[..n]);
+        if !write_samples(kind, &block[..n]) {
+            return Err(sent);
         }
         sent += n;
     }
-    Ended { sent, well: true }
+    Ok(sent)
 }
 
 // A count of samples, as far as a header can say it.
-fn count_in(c: Counted) -> u32
+fn count_in(c: Result<usize, Refusal>) -> u32
     ensures { result ≤ 1000000000 }
 {
     match c {
-        Counted::Count(n) => within(n),
-        Counted::Refused(_) => 0,
+        Ok(n) => n.min(1000000000) as u32,
+        Err(_) => 0,
     }
-}
-
-fn within(n: usize) -> u32
-    ensures { result ≤ 1000000000 }
-{
-    if n < 1000000000 { n as u32 } else { 1000000000 }
 }
 
 // Writes all before the samples; whether that went well.
@@ -204,9 +148,5 @@ pub fn send_call(role: Role, rate: u16, kind: Kind, text: &[u8]) -> bool
     let ready = opened(tx);
     let duration = ready.samples_for_bits(bits_for(text));
     let samples = count_in(duration);
-    if !write_header(kind, rate, samples) {
-        return false;
-    }
-    let ended = send_samples(ready, kind, text, samples as usize);
-    ended.well
+    write_header(kind, rate, samples) && send_samples(ready, kind, text, samples as usize).is_ok()
 }

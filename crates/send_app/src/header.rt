@@ -1,42 +1,18 @@
 // The recording's header: one channel of 32-bit floats, or of 16-bit PCM.
-ghost use Rattle.std.specs.Prelude.{◌≡◌, ◌+◌, ◌/◌, ◌%◌, ◌≤◌, length};
+ghost use Rattle.std.specs.Prelude.{◌≡◌, ◌+◌, ◌≤◌, length};
 ghost use Rattle.send_app.specs.Header.{header_of, blank_header, with_word};
 ghost use Rattle.send_app.specs.declared.words.Kind.TheVariants as kind;
 
-// A word's bytes, low byte first.
-pub fn byte_0(n: u32) -> u8
-    ensures { result ≡ n % 256 }
-{
-    (n % 256) as u8
-}
-
-pub fn byte_1(n: u32) -> u8
-    ensures { result ≡ n / 256 % 256 }
-{
-    (n / 256 % 256) as u8
-}
-
-pub fn byte_2(n: u32) -> u8
-    ensures { result ≡ n / 65536 % 256 }
-{
-    (n / 65536 % 256) as u8
-}
-
-pub fn byte_3(n: u32) -> u8
-    ensures { result ≡ n / 16777216 }
-{
-    (n / 16777216) as u8
-}
-
-// A word's four bytes, from `at` on.
+// A word's four bytes, from `at` on, low byte first.
 pub fn put_word(bytes: &mut [u8], at: usize, n: u32)
     requires { at + 4 ≤ length bytes.old }
     ensures { bytes.new ≡ with_word bytes.old at n }
 {
-    bytes[at] = byte_0(n);
-    bytes[at + 1] = byte_1(n);
-    bytes[at + 2] = byte_2(n);
-    bytes[at + 3] = byte_3(n);
+    let [b0, b1, b2, b3] = n.to_le_bytes();
+    bytes[at] = b0;
+    bytes[at + 1] = b1;
+    bytes[at + 2] = b2;
+    bytes[at + 3] = b3;
 }
 
 // The header of any recording of floats, with zeros for its length, its rate, its bytes a second, its frames and its size.

@@ -18,13 +18,11 @@ mod text;
 mod words;
 
 use std::env::Env;
-use words::Request;
 
 // Sends standard input as the words of the command say.
 pub fn run<E: Env>(env: &E) {
-    let request = words::read(env);
-    match request {
-        Request::Call { role, source } => text::send_text(role, source),
-        Request::Unclear(why) => complain::of_words(why),
+    match words::read(env) {
+        Ok(call) => text::send_text(call.role, call.source),
+        Err(why) => complain::of_words(why),
     }
 }

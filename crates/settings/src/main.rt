@@ -12,9 +12,9 @@ mod complain;
 mod page;
 mod words;
 
-use bell103::Role;
 use std::rt::Files;
 use std::str::from_utf8;
+use store::Settings;
 use words::Request;
 
 fn main(rt: HostRuntime) {
@@ -22,13 +22,9 @@ fn main(rt: HostRuntime) {
     let request = words::read(&rt);
     let n = console::word_into(&rt, 2, &mut name);
     match request {
-        Request::Read => tell(&rt, &name[..n]),
-        Request::Write {
-            rate,
-            station,
-            role,
-        } => change(&rt, &name[..n], rate, station, role),
-        Request::Unclear(why) => complain::of_words(why),
+        Ok(Request::Read) => tell(&rt, &name[..n]),
+        Ok(Request::Write(settings)) => change(&rt, &name[..n], settings),
+        Err(why) => complain::of_words(why),
     }
 }
 
@@ -41,9 +37,9 @@ fn tell<R: Files>(files: &R, name: &[u8]) {
 }
 
 // Writes settings into the file of this name.
-fn change<R: Files>(files: &R, name: &[u8], rate: u16, station: u16, role: Role) {
+fn change<R: Files>(files: &R, name: &[u8], settings: Settings) {
     match from_utf8(name) {
-        Ok(path) => page::change(files, path, rate, station, role),
+        Ok(path) => page::change(files, path, settings),
         Err(_) => complain::of_name(name),
     }
 }

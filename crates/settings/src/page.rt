@@ -3,34 +3,27 @@ ghost use Rattle.std.specs.Prelude.{◌+◌, ◌≤◌, length, IfOk};
 
 use crate::complain;
 use bell103::Role;
-use refusal::Acceptance;
 use std::fs;
 use std::fs::{OpenFile, OpenOptions};
 use std::io::{Error, ErrorKind, Read, Seek, SeekFrom, Write};
 use std::rt::Files;
-use store::{Found, Stored};
+use store::{Found, Settings};
 
 // The role, as a word of the command has it.
-fn print_role(role: Role) {
+fn role_name(role: Role) -> &'static [u8] {
     match role {
-        Role::Originate => {
-            io::write_all(1, b"originate");
-        }
-        Role::Answer => {
-            io::write_all(1, b"answer");
-        }
+        Role::Originate => b"originate",
+        Role::Answer => b"answer",
     }
 }
 
 // Rate, station, role, and the lines of unknown version passed over.
 fn print_found(found: Found) {
-    let settings = found.settings;
-    let role = settings.role;
-    io::print_decimal(1, settings.rate as u64);
+    io::print_decimal(1, found.settings.rate as u64);
     io::write_all(1, b" ");
-    io::print_decimal(1, settings.station as u64);
+    io::print_decimal(1, found.settings.station as u64);
     io::write_all(1, b" ");
-    print_role(role);
+    io::write_all(1, role_name(found.settings.role));
     io::write_all(1, b" ");
     io::print_decimal(1, found.unknown as u64);
     io::write_all(1, b"\n");
@@ -54,10 +47,9 @@ fn read_page<F: Read>(file: &mut F, page: &mut [u8]) -> Result<usize, Error>
 
 // Prints what a page says.
 fn tell_page(page: &[u8]) {
-    let answer = store::read(page);
-    match answer {
-        Stored::Given(found) => print_found(found),
-        Stored::Refused(r) => complain::of_refusal(r),
+    match store::read(page) {
+        Ok(found) => print_found(found),
+        Err(r) => complain::of_refusal(r),
     }
 }
 
@@ -99,17 +91,14 @@ fn put_line<F: Write + Seek + OpenFile>(file: &mut F, page: &[u8], at: usize) ->
 fn change_page<F: Write + Seek + OpenFile>(
     file: &mut F,
     page: &mut [u8],
-    rate: u16,
-    station: u16,
-    role: Role,
+    settings: Settings,
 ) -> Result<(), Error>
     requires { length page.old ≤ 256 }
 {
     let at = store::unused_from(page);
-    let answer = store::write(page, rate as u32, station, role);
-    match answer {
-        Acceptance::Accepted => put_line(file, page, at),
-        Acceptance::Refused(r) => {
+    match store::write(page, settings.rate, settings.station, settings.role) {
+        Ok(()) => put_line(file, page, at),
+        Err(r) => {
             complain::of_refusal(r);
             Ok(())
         }
@@ -119,13 +108,11 @@ fn change_page<F: Write + Seek + OpenFile>(
 // Writes settings into an open file.
 fn change_file<F: Read + Write + Seek + OpenFile>(
     file: &mut F,
-    rate: u16,
-    station: u16,
-    role: Role,
+    settings: Settings,
 ) -> Result<(), Error> {
     let mut page = [0u8; 256];
     let n = read_page(file, &mut page)?;
-    change_page(file, &mut page[..n], rate, station, role)
+    change_page(file, &mut page[..n], settings)
 }
 
 // Opens a file to be changed, which has to be there.
@@ -149,12 +136,11 @@ fn erased<R: Files>(files: &R, path: &str) -> Result<R::File, Error> {
 }
 
 // Whether an erased page takes these settings: no file is made for any that are refused.
-fn admitted(rate: u16, station: u16, role: Role) -> bool {
+fn admitted(settings: Settings) -> bool {
     let mut page = [255u8; 256];
-    let answer = store::write(&mut page, rate as u32, station, role);
-    match answer {
-        Acceptance::Accepted => true,
-        Acceptance::Refused(r) => {
+    match store::write(&mut page, settings.rate, settings.station, settings.role) {
+        Ok(()) => true,
+        Err(r) => {
             complain::of_refusal(r);
             false
         }
@@ -162,20 +148,12 @@ fn admitted(rate: u16, station: u16, role: Role) -> bool {
 }
 
 // The file to be changed, made where it is not there; none where the settings are refused, for which then no file is made.
-fn opened<R: Files>(
-    files: &R,
-    path: &str,
-    rate: u16,
-    station: u16,
-    role: Role,
-) -> Result<Option<R::File>, Error> {
+fn opened<R: Files>(files: &R, path: &str, settings: Settings) -> Result<Option<R::File>, Error> {
     match open_update(files, path) {
         Ok(file) => Ok(Some(file)),
-        Err(e) => {
-            if e.kind() != ErrorKind::NotFound {
-                return Err(e);
-            }
-            if !admitted(rate, station, role) {
+        Err(e) if e.kind() != ErrorKind::NotFound => Err(e),
+        Err(_) => {
+            if !admitted(settings) {
                 return Ok(None);
             }
             Ok(Some(erased(files, path)?))
@@ -184,22 +162,16 @@ fn opened<R: Files>(
 }
 
 // Opens a file, and writes settings into it.
-fn open_and_change<R: Files>(
-    files: &R,
-    path: &str,
-    rate: u16,
-    station: u16,
-    role: Role,
-) -> Result<(), Error> {
-    let Some(mut file) = opened(files, path, rate, station, role)? else {
+fn open_and_change<R: Files>(files: &R, path: &str, settings: Settings) -> Result<(), Error> {
+    let Some(mut file) = opened(files, path, settings)? else {
         return Ok(());
     };
-    change_file(&mut file, rate, station, role)
+    change_file(&mut file, settings)
 }
 
 // Writes settings into a file.
-pub fn change<R: Files>(files: &R, path: &str, rate: u16, station: u16, role: Role) {
-    if let Err(e) = open_and_change(files, path, rate, station, role) {
+pub fn change<R: Files>(files: &R, path: &str, settings: Settings) {
+    if let Err(e) = open_and_change(files, path, settings) {
         complain::of_file(path, e);
     }
 }

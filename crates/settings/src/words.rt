@@ -3,15 +3,15 @@ ghost use Rattle.std.specs.Prelude.{◌≡◌};
 ghost use Rattle.settings.specs.Words.{Says, asked, asked_role};
 
 use bell103::Role;
-use console::{Named, number_word, role_word, word_count, word_into};
+use console::{number_word, role_word, word_count, word_into};
 use std::env::Env;
+use store::Settings;
 
 // What is to be done.
 #[derive(Drop)]
 pub enum Verb {
     Read,
     Write,
-    Unknown,
 }
 
 // Which word is wrong.
@@ -21,61 +21,68 @@ pub enum Unclear {
     Role,
 }
 
+impl Unclear {
+    // The line that says so.
+    pub fn line(self) -> &'static [u8] {
+        match self {
+            Unclear::Words => {
+                b"settings: the words are read FILE, or write FILE RATE STATION ROLE\n"
+            }
+            Unclear::Role => b"settings: ROLE is originate or answer\n",
+        }
+    }
+}
+
 #[derive(Drop)]
 pub enum Request {
     Read,
-    Write { rate: u16, station: u16, role: Role },
-    Unclear(Unclear),
+    Write(Settings),
 }
 
-fn verb_of(word: &[u8]) -> Verb
+fn verb_of(word: &[u8]) -> Option<Verb>
     ensures { Says word.now result }
 {
     if check::same(word, b"read") {
-        return Verb::Read;
+        return Some(Verb::Read);
     }
     if check::same(word, b"write") {
-        return Verb::Write;
+        return Some(Verb::Write);
     }
-    Verb::Unknown
+    None
 }
 
-fn ask_role(rate: u16, station: u16, named: Named) -> Request
+fn ask_role(rate: u16, station: u16, named: Option<Role>) -> Result<Request, Unclear>
     ensures { result ≡ asked_role rate station named }
 {
     match named {
-        Named::Unknown => Request::Unclear(Unclear::Role),
-        Named::Role(role) => Request::Write {
-            rate,
+        None => Err(Unclear::Role),
+        Some(role) => Ok(Request::Write(Settings {
+            rate: rate as u32,
             station,
             role,
-        },
+        })),
     }
 }
 
 // What so many words ask for, the program's name among them.
-fn ask(count: usize, verb: Verb, rate: u16, station: u16, named: Named) -> Request
+fn ask(
+    count: usize,
+    verb: Option<Verb>,
+    rate: u16,
+    station: u16,
+    named: Option<Role>,
+) -> Result<Request, Unclear>
     ensures { result ≡ asked count verb rate station named }
 {
-    match verb {
-        Verb::Read => {
-            if count == 3 {
-                return Request::Read;
-            }
-            Request::Unclear(Unclear::Words)
-        }
-        Verb::Write => {
-            if count == 6 {
-                return ask_role(rate, station, named);
-            }
-            Request::Unclear(Unclear::Words)
-        }
-        Verb::Unknown => Request::Unclear(Unclear::Words),
+    match (verb, count) {
+        (Some(Verb::Read), 3) => Ok(Request::Read),
+        (Some(Verb::Write), 6) => ask_role(rate, station, named),
+        _ => Err(Unclear::Words),
     }
 }
 
 // A rate or a station that is no number up to 65,535 is asked for as 0, which the store refuses with 1 or 2.
-pub fn read<E: Env>(env: &E) -> Request {
+pub fn read<E: Env>(env: &E) -> Result<Request, Unclear> {
     let mut word = [0u8; 8];
     let n = word_into(env, 1, &mut word);
     let verb = verb_of(&word[..n]);

@@ -1,13 +1,15 @@
 -- The receiver's state laid into a slice, and the script before it, over lists. Assumes nothing.
-use Prim.Native.Nat.{ℕ, suc, min, ◌+◌, ◌*◌, ◌-◌, ◌<◌, ◌≤◌}
+use Prim.Native.Nat.{ℕ, suc, min, ◌+◌, ◌*◌, ◌-◌, ◌≤◌}
 use mathlib.Core.Path.{◌≡◌, refl, sym, ap, subst, ◌∙◌}
 use mathlib.Core.List.{List, ◌++◌, append_assoc}
 use native.Mathlib.Nat.{add-zero, add_assoc, sub-zero, zero-add, min-le_right}
-use native.Mathlib.Numerals.{add-one}
 use native.Mathlib.Omega.{arith}
-use lib.ListN.{length, get_or, set, take, drop, replicate, length-append, length-drop, length-replicate}
-use lib.Seq.{drop-drop, get_or-drop, length-take-le, paste, paste-suc, take-length}
-use lib.Ieee.{Float}
+use lib.ListN.{length, get_or, take, drop, replicate, length-append, length-drop, length-replicate}
+use lib.Seq.{drop-drop, get_or-drop, length-take-le}
+use lib.Ieee.{Float, binary64, of_bits, of_int}
+use lib.IntN.{pos}
+use mir.Val.{bool_byte}
+use mathlib.Core.Bool.{Bool, true, false}
 use Rattle.resampling.specs.Numbers.{tap_numbers, history_numbers, window_numbers}
 use Rattle.resampling.specs.Resample.{State}
 use Rattle.modem.specs.Queue.{most_bytes, most_events}
@@ -22,7 +24,7 @@ use Rattle.modem.specs.declared.rx.Rx.{Rx}
 use Rattle.numeric.proofs.Parts.{part-next, part_left, put_front, put-behind}
 use Rattle.calls.specs.Receive.{call_in, called}
 use Rattle.calls.specs.ReceiveSteps.{Calls}
-use Rattle.snapshot.specs.ReceiverState.{place_numbers, tone_numbers, mark_numbers, own_numbers, last_numbers, resampler_numbers, ring_numbers, state_numbers, state_length, receiver_after}
+use Rattle.snapshot.specs.ReceiverState.{truth, place_numbers, tone_numbers, mark_numbers, own_numbers, last_numbers, resampler_numbers, ring_numbers, state_numbers, state_length, receiver_after}
 use Rattle.snapshot.specs.ResamplerState.{shown_after, traced}
 use Rattle.snapshot.specs.StateSteps.{Put, PutMany, Moves}
 use Rattle.calls.specs.Resample.{Scripted}
@@ -30,14 +32,13 @@ use Rattle.calls.specs.declared.answers.Heard.{Heard}
 use Rattle.calls.specs.declared.receive.Call.{Call}
 use Rattle.snapshot.specs.declared.state.Spot.{Spot}
 
+-- yes or no as a number, as the conversion gives it
+pub truth-is : (b : Bool) → of_int binary64 (pos (bool_byte b)) ≡ truth b
+unfolding of_bits of_int
+truth-is true = refl
+truth-is false = refl
+
 -- ---- copies
-pub put_step : (d : List Float) (at : ℕ) (xs : List Float) (i : ℕ) (out : List Float) (z : Float) → at + i < length d → i < length xs → out ≡ paste d at xs i
-    → set out (at + i) (get_or xs i z) ≡ paste d at xs (i + 1)
-put_step d at xs i out z h l e = rw (e, add-one i) (paste-suc d at xs i z h l)
-
-pub put-end : (d : List Float) (at : ℕ) (xs : List Float) (i : ℕ) (out : List Float) → at + length xs ≤ length d → i ≡ length xs → out ≡ paste d at xs i → Put at xs d out
-put-end d at xs i out h is e = record { room = h; is = e ∙ rw (is, take-length xs, append_assoc (take at d)) }
-
 pub put-long : (at : ℕ) (xs l l' : List Float) → Put at xs l l' → length l' ≡ length l
 put-long at xs l l' p =
     let fits : at ≤ length l = omega (arith, p.room) in
@@ -144,7 +145,7 @@ step-moves p k xs e s h bytes events bytes' events' is fits bytes-are events-are
     record {
       state = calls.state ∙ rw (part-next xs p.read k.samples e is, bytes-are, events-are);
       left = part_left xs p.read k.samples e is;
-      stands = record { sound = calls.sound; read = fits };
+      stands = record { read = fits };
     }
 
 pub after-start : (k : ℕ) (r : Receiver) (xs : List Float) (script : List ℕ) → receiver_after (k - 0) r xs script ≡ receiver_after k r xs script

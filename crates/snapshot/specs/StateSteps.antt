@@ -1,7 +1,7 @@
 -- How the code lays the state into a lent slice, and one call between two places of a script. Assumes nothing.
 use Rattle.std.specs.Prelude.{ℕ, min, ◌+◌, ◌≤◌, ◌≡◌, List, ◌++◌, length, take, drop, Float}
 use Rattle.modem.specs.Queue.{most_bytes, most_events}
-use Rattle.modem.specs.RxRep.{receiver_of, RxSound}
+use Rattle.modem.specs.RxRep.{receiver_of}
 use Rattle.calls.specs.Receive.{called}
 use Rattle.calls.specs.declared.receive.Call.{Call}
 use Rattle.snapshot.specs.declared.state.Spot.{Spot}
@@ -16,9 +16,8 @@ pub record PutMany (at n : ℕ) (xs before after : List Float) : Type 0 where
   pub put : Put at xs before after
   pub many : length xs ≡ n
 
--- a place within the samples, with a sound state
+-- a place within the samples
 pub record Standing (p : Spot) (xs : List Float) : Type 0 where
-  pub sound : RxSound p.state
   pub read : p.read ≤ length xs
 
 -- a call leads from p to q

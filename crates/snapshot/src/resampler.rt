@@ -1,18 +1,18 @@
 // The resampler's state behind a script of its calls, as a list of f64.
 ghost use Rattle.std.specs.Prelude.{◌≡◌};
-ghost use Rattle.refusal.specs.Refusals.{acceptance_of};
-ghost use Rattle.resampling.specs.ResampleRep.{state_of, Sound};
+ghost use Rattle.refusal.specs.Refusals.{reply_in};
+ghost use Rattle.resampling.specs.ResampleRep.{state_of};
+ghost use Rattle.calls.specs.Answers.{accepted_in};
 ghost use Rattle.calls.specs.Resample.{ran};
 ghost use Rattle.snapshot.specs.ResamplerState.{resampler_shown, shown_after, traced, resampler_run};
 
 use crate::state::put_numbers;
 use calls::scripted_from_fresh;
-use refusal::Acceptance;
+use refusal::Refusal;
 use resampling::Resampler;
 
 // The numbers at the front of the slice, where there is room for them.
 fn show_numbers(r: Resampler, state: &mut [f64])
-    requires { Sound r }
     ensures { state.new ≡ resampler_shown (state_of r) state.old }
 {
     if state.len() < 753 {
@@ -21,13 +21,13 @@ fn show_numbers(r: Resampler, state: &mut [f64])
     put_numbers(r, state);
 }
 
-fn show_accepted(answer: Acceptance, r: Resampler, state: &mut [f64])
-    requires { Sound r }
-    ensures { state.new ≡ shown_after (acceptance_of answer) (state_of r) state.old }
+// A twin of the sender's: one function of both would take the two ways to show as closures, and read no plainer.
+fn show_accepted(answer: Result<usize, Refusal>, r: Resampler, state: &mut [f64])
+    ensures { state.new ≡ shown_after (accepted_in (reply_in answer)) (state_of r) state.old }
 {
     match answer {
-        Acceptance::Refused(_) => {}
-        Acceptance::Accepted => show_numbers(r, state),
+        Err(_) => {}
+        Ok(_) => show_numbers(r, state),
     }
 }
 
@@ -45,8 +45,6 @@ pub fn resampler_from_fresh(
         ≡ resampler_run src dst input.now script.now output.old answers.old state.old }
 {
     let s = scripted_from_fresh(src, dst, input, script, output, answers);
-    let answer = s.answer;
-    let resampler = s.state;
-    show_accepted(answer, resampler, state);
-    s.calls
+    show_accepted(s.answer, s.state, state);
+    s.answer.unwrap_or(0)
 }

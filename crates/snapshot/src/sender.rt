@@ -1,7 +1,8 @@
 // The sender's state behind a script of its calls, as a list of f64.
 ghost use Rattle.std.specs.Prelude.{◌≡◌, ◌++◌, ◌≤◌, length, drop};
-ghost use Rattle.refusal.specs.Refusals.{acceptance_of};
-ghost use Rattle.modulation.specs.TxRep.{sender_of, TxSound};
+ghost use Rattle.refusal.specs.Refusals.{reply_in};
+ghost use Rattle.modulation.specs.TxRep.{sender_of};
+ghost use Rattle.calls.specs.Answers.{accepted_in};
 ghost use Rattle.calls.specs.Resample.{ran};
 ghost use Rattle.snapshot.specs.ResamplerState.{traced};
 ghost use Rattle.snapshot.specs.SenderState.{sender_numbers, sender_length, sender_shown, shown_after, sender_state_run};
@@ -9,11 +10,11 @@ ghost use Rattle.snapshot.specs.SenderState.{sender_numbers, sender_length, send
 use crate::state::{put, put_numbers};
 use calls::sender_from_fresh;
 use modulation::Tx;
-use refusal::Acceptance;
+use refusal::Refusal;
 
 // The whole state.
 fn put_sender(tx: Tx, out: &mut [f64])
-    requires { TxSound tx × (sender_length ≤ length out.old) }
+    requires { sender_length ≤ length out.old }
     ensures { out.new ≡ sender_numbers (sender_of tx) ++ drop sender_length out.old }
 {
     let r = tx.resampler();
@@ -28,7 +29,6 @@ fn put_sender(tx: Tx, out: &mut [f64])
 
 // The numbers at the front of the slice, where there is room for them.
 fn show_sender(tx: Tx, state: &mut [f64])
-    requires { TxSound tx }
     ensures { state.new ≡ sender_shown (sender_of tx) state.old }
 {
     if state.len() < 4921 {
@@ -37,13 +37,13 @@ fn show_sender(tx: Tx, state: &mut [f64])
     put_sender(tx, state);
 }
 
-fn show_accepted(answer: Acceptance, tx: Tx, state: &mut [f64])
-    requires { TxSound tx }
-    ensures { state.new ≡ shown_after (acceptance_of answer) (sender_of tx) state.old }
+// A twin of the resampler's: one function of both would take the two ways to show as closures, and read no plainer.
+fn show_accepted(answer: Result<usize, Refusal>, tx: Tx, state: &mut [f64])
+    ensures { state.new ≡ shown_after (accepted_in (reply_in answer)) (sender_of tx) state.old }
 {
     match answer {
-        Acceptance::Refused(_) => {}
-        Acceptance::Accepted => show_sender(tx, state),
+        Err(_) => {}
+        Ok(_) => show_sender(tx, state),
     }
 }
 
@@ -61,8 +61,6 @@ pub fn sender_state_from_fresh(
         ≡ sender_state_run rate role «data».now script.now samples.old answers.old state.old }
 {
     let s = sender_from_fresh(rate, role, data, script, samples, answers);
-    let answer = s.answer;
-    let tx = s.state;
-    show_accepted(answer, tx, state);
-    s.calls
+    show_accepted(s.answer, s.state, state);
+    s.answer.unwrap_or(0)
 }

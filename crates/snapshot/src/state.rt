@@ -1,16 +1,16 @@
 // The receiver's state as a list of f64, exported to C.
 ghost use Rattle.std.specs.Prelude.{◌≡◌, ◌++◌, ◌+◌, ◌≤◌, ◌/◌, ◌<◌, length, drop, replicate};
-ghost use Rattle.resampling.specs.ResampleRep.{state_of, Sound};
-ghost use Rattle.demodulation.specs.DemodRep.{demodulator_of, DemodSound};
-ghost use Rattle.modem.specs.RxRep.{receiver_of, RxSound};
+ghost use Rattle.resampling.specs.ResampleRep.{state_of};
+ghost use Rattle.demodulation.specs.DemodRep.{demodulator_of};
+ghost use Rattle.modem.specs.RxRep.{receiver_of};
 ghost use Rattle.snapshot.specs.ReceiverState.{truth, place_numbers, tone_numbers, mark_numbers, own_numbers, block_number, last_numbers, resampler_numbers, resampler_length, ring_numbers, state_numbers, state_length, scripted_receiver, shown, state_run_from, state_run};
 ghost use Rattle.snapshot.specs.StateSteps.{Put, PutMany, Standing, Moves};
 
 use calls::{Call, make_call, role_of};
 use demodulation::{Core, Demodulator};
 use modem::Rx;
+use numeric::arrays::filled;
 use numeric::ends::part_end;
-use refusal::Acceptance;
 use resampling::{MAX_TAPS, Resampler};
 
 // ---- the script
@@ -22,84 +22,52 @@ struct Spot {
     read: usize,
 }
 
-fn no_bytes() -> [u8; 512]
-    ensures { result ≡ replicate 512 0 }
-{
-    [0u8; 512]
-}
-
-fn no_events() -> [u8; 64]
-    ensures { result ≡ replicate 64 0 }
-{
-    [0u8; 64]
-}
-
 // One call; its bytes and events are dropped.
 fn one_step(p: Spot, k: Call, samples: &[f32]) -> Spot
     requires { Standing p samples.now }
     ensures { Moves p result k samples.now }
 {
-    let state = p.state;
-    let read = p.read;
-    let end = part_end(read, k.samples, samples.len());
-    let mut bytes = no_bytes();
-    let mut events = no_events();
+    let end = part_end(p.read, k.samples, samples.len());
+    let mut bytes: [u8; 512] = filled(0);
+    let mut events: [u8; 64] = filled(0);
     let b = part_end(0, k.bytes, 512);
     let e = part_end(0, k.events, 64);
     let c = make_call(
-        state,
-        &samples[read..end],
+        p.state,
+        &samples[p.read..end],
         &mut bytes[..b],
         &mut events[..e],
     );
-    let next = c.state;
     Spot {
-        state: next,
+        state: c.state,
         read: end,
     }
 }
 
-// How many calls of three numbers.
-fn calls_of(numbers: usize) -> usize
-    ensures { result ≡ numbers / 3 }
-{
-    numbers / 3
-}
-
 // Each call of the script.
 fn all_steps(state: Rx, samples: &[f32], script: &[u32]) -> Rx
-    requires { RxSound state }
-    ensures { (receiver_of result ≡ scripted_receiver (receiver_of state) samples.now script.now) × RxSound result }
+    ensures { receiver_of result ≡ scripted_receiver (receiver_of state) samples.now script.now }
 {
-    let calls = calls_of(script.len());
+    let calls = script.len() / 3;
     let mut spot = Spot { state, read: 0 };
-    let mut i = 0;
-    while i < calls {
-        let k = Call {
+    for i in 0..calls {
+        let call = Call {
             samples: script[3 * i],
             bytes: script[3 * i + 1],
             events: script[3 * i + 2],
         };
-        spot = one_step(spot, k, samples);
-        i += 1;
+        spot = one_step(spot, call, samples);
     }
     spot.state
 }
 
 // ---- the numbers
 
-fn one_or_zero(b: bool) -> f64
-    ensures { result ≡ truth b }
-{
-    if b { 1.0 } else { 0.0 }
-}
-
 fn place_numbers(core: Core) -> [f64; 2]
-    requires { core.corr.pos < 27 }
     ensures { result ≡ place_numbers core.corr }
 {
     let c = core.corr;
-    [c.pos as f64, one_or_zero(c.filled)]
+    [c.pos as f64, f64::from(c.filled)]
 }
 
 fn tone_numbers(core: Core) -> [f64; 17]
@@ -109,9 +77,9 @@ fn tone_numbers(core: Core) -> [f64; 17]
     let t = core.timing;
     let d = core.deframer;
     let l = core.carrier;
-    let mid = one_or_zero(t.have_mid);
-    let in_frame = one_or_zero(d.in_frame);
-    let up = one_or_zero(l.detected);
+    let mid = f64::from(t.have_mid);
+    let in_frame = f64::from(d.in_frame);
+    let up = f64::from(l.detected);
     [
         c.phase_m,
         c.phase_s,
@@ -133,16 +101,12 @@ fn tone_numbers(core: Core) -> [f64; 17]
     ]
 }
 
+// Not one function of N probes with the next: the type of its 3 * N numbers needs a computed const argument, which Rattle has not.
 fn mark_numbers(core: Core) -> [f64; 15]
     ensures { result ≡ mark_numbers core.dominance }
 {
     let d = core.dominance;
-    let m = d.mark;
-    let a = m[0];
-    let b = m[1];
-    let c = m[2];
-    let e = m[3];
-    let f = m[4];
+    let [a, b, c, e, f] = d.mark;
     [
         a.coeff, a.s1, a.s2, b.coeff, b.s1, b.s2, c.coeff, c.s1, c.s2, e.coeff, e.s1, e.s2,
         f.coeff, f.s1, f.s2,
@@ -153,9 +117,7 @@ fn own_numbers(core: Core) -> [f64; 6]
     ensures { result ≡ own_numbers core.dominance }
 {
     let d = core.dominance;
-    let m = d.own;
-    let a = m[0];
-    let b = m[1];
+    let [a, b] = d.own;
     [a.coeff, a.s1, a.s2, b.coeff, b.s1, b.s2]
 }
 
@@ -167,7 +129,6 @@ fn block_number(n: usize) -> f64
 }
 
 fn last_numbers(rx: Rx) -> [f64; 8]
-    requires { RxSound rx }
     ensures { result ≡ last_numbers (receiver_of rx) }
 {
     let demod = rx.demodulator();
@@ -178,9 +139,9 @@ fn last_numbers(rx: Rx) -> [f64; 8]
     let d = core.dominance;
     let l = core.latch;
     let block = block_number(d.count);
-    let gate = one_or_zero(core.gate_open);
-    let up = one_or_zero(l.qualified);
-    let ever = one_or_zero(l.qualified_ever);
+    let gate = f64::from(core.gate_open);
+    let up = f64::from(l.qualified);
+    let ever = f64::from(l.qualified_ever);
     [
         d.wideband,
         block,
@@ -200,11 +161,7 @@ pub(crate) fn put(out: &mut [f64], at: usize, xs: &[f64])
     requires { at + length xs.now ≤ length out.old }
     ensures { Put at xs.now out.old out.new }
 {
-    let mut i = 0;
-    while i < xs.len() {
-        out[at + i] = xs[i];
-        i += 1;
-    }
+    out[at..at + xs.len()].copy_from_slice(xs);
 }
 
 fn put_ring(out: &mut [f64], at: usize, ring: [f64; 27])
@@ -216,7 +173,7 @@ fn put_ring(out: &mut [f64], at: usize, ring: [f64; 27])
 
 // A resampler's 753 numbers, at the front.
 pub(crate) fn put_numbers(r: Resampler, out: &mut [f64])
-    requires { Sound r × (resampler_length ≤ length out.old) }
+    requires { resampler_length ≤ length out.old }
     ensures { PutMany 0 753 (resampler_numbers (state_of r)) out.old out.new }
 {
     let taps = r.tap_numbers();
@@ -229,35 +186,30 @@ pub(crate) fn put_numbers(r: Resampler, out: &mut [f64])
 
 // Those of the receiver's resampler.
 fn put_resampler(rx: Rx, out: &mut [f64])
-    requires { RxSound rx × (state_length ≤ length out.old) }
+    requires { state_length ≤ length out.old }
     ensures { PutMany 0 753 (resampler_numbers (receiver_of rx).demod.resampler) out.old out.new }
 {
-    let r = rx.resampler();
-    put_numbers(r, out);
+    put_numbers(rx.resampler(), out);
 }
 
 // The correlator's place and rings, 110 numbers behind those.
 fn put_rings(d: Demodulator, out: &mut [f64])
-    requires { DemodSound d × (state_length ≤ length out.old) }
+    requires { state_length ≤ length out.old }
     ensures { PutMany 753 110 (ring_numbers (demodulator_of d)) out.old out.new }
 {
     let core = d.core();
     let rings = d.rings();
-    let mark_i = rings.mark_i;
-    let mark_q = rings.mark_q;
-    let space_i = rings.space_i;
-    let space_q = rings.space_q;
     let place = place_numbers(core);
     put(out, 753, &place);
-    put_ring(out, 755, mark_i);
-    put_ring(out, 782, mark_q);
-    put_ring(out, 809, space_i);
-    put_ring(out, 836, space_q);
+    put_ring(out, 755, rings.mark_i);
+    put_ring(out, 782, rings.mark_q);
+    put_ring(out, 809, rings.space_i);
+    put_ring(out, 836, rings.space_q);
 }
 
 // The whole state.
 fn put_state(rx: Rx, out: &mut [f64])
-    requires { RxSound rx × (state_length ≤ length out.old) }
+    requires { state_length ≤ length out.old }
     ensures { out.new ≡ state_numbers (receiver_of rx) ++ drop state_length out.old }
 {
     let demod = rx.demodulator();
@@ -276,7 +228,7 @@ fn put_state(rx: Rx, out: &mut [f64])
 
 // The state behind a script; answers 1.
 fn show(fresh: Rx, samples: &[f32], script: &[u32], state: &mut [f64]) -> u32
-    requires { RxSound fresh × (state_length ≤ length state.old) }
+    requires { state_length ≤ length state.old }
     ensures { shown result state.new ≡ state_run_from (receiver_of fresh) samples.now script.now state.old }
 {
     let rx = all_steps(fresh, samples, script);
@@ -300,7 +252,7 @@ pub fn state_from_fresh(
     let answer = made.answer;
     let fresh = made.state;
     match answer {
-        Acceptance::Refused(_) => 0,
-        Acceptance::Accepted => show(fresh, samples, script, state),
+        Err(_) => 0,
+        Ok(()) => show(fresh, samples, script, state),
     }
 }

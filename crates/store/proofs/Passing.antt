@@ -1,19 +1,22 @@
 -- A store read in one pass: what its bytes so far say. Assumes nothing.
-use Prim.Native.Nat.{ℕ, suc, ◌+◌, ◌-◌, ◌≤◌, ◌<◌}
+use Rattle.store.specs.declared.line.Settings.{Settings}
+use Rattle.std.specs.Prelude.{Result, Ok, Err, Option, None}
+use Prim.Native.Nat.{ℕ, suc, ◌+◌, ◌-◌, ◌≤◌, ◌<◌, min}
 use mathlib.Core.Path.{◌≡◌, refl, sym, ap, ◌∙◌}
 use mathlib.Core.Bool.{Bool, true, false}
 use mathlib.Core.List.{List, [], ◌∷◌, ◌++◌}
 use lib.Dec.{eqb}
 use lib.ListN.{length, get_or, take, drop, length-drop, drop_of_length-le}
 use lib.Seq.{take-suc, drop-cons, get_or-drop, length-take-le}
+use Rattle.std.proofs.Math.Nat.{min_comm, min-le_left}
+use Rattle.std.proofs.lemmas.List.{take_min}
 use native.Mathlib.Numerals.{add-one}
 use native.Mathlib.Omega.{arith}
 use Rattle.std.specs.Prelude.{if◌then◌else◌}
-use Rattle.store.specs.declared.line.Judged.{Judged}
-use Rattle.store.specs.declared.line.Judged.TheVariants.{Good, UnknownVersion, Damaged}
+use Rattle.store.specs.declared.line.Settings.{Settings}
+use Rattle.store.specs.declared.line.Flaw.{Flaw}
+use Rattle.store.specs.declared.line.Flaw.TheVariants.{UnknownVersion, Damaged}
 use Rattle.store.specs.declared.reading.Scan.{Scan}
-use Rattle.store.specs.declared.reading.Latest.{Latest}
-use Rattle.store.specs.declared.reading.Latest.TheVariants as latest
 use Rattle.store.specs.Line.{judged}
 use Rattle.store.specs.Store.{store_of, lines_from, last_good, one_unknown, unknowns, answer_of, read_of}
 use Rattle.store.specs.StoreRep.{passed_line, passed}
@@ -22,6 +25,9 @@ use Rattle.store.specs.StoreRep.{passed_line, passed}
 -- a count of bytes that cuts the store off the buffer is the store's length
 pub store_length : (b : List ℕ) (n : ℕ) → n ≤ length b → take n b ≡ store_of b → length (store_of b) ≡ n
 store_length b n h e = ap length (sym e) ∙ length-take-le n b h
+
+pub store-cut : (b : List ℕ) (n : ℕ) → n ≡ min (length b) 256 → (n ≤ length b) × (take n b ≡ store_of b)
+store-cut b n e = (rw e (min-le_left (length b) 256), rw (e, min_comm (length b) 256) (take_min 256 b))
 
 -- ---- the loop
 -- the line that is not ended
@@ -32,16 +38,16 @@ open-line s f i = take (i - f.start) (drop f.start s)
 pub record Going (s : List ℕ) (f : Scan) (i : ℕ) : Type 0 where
   pub began : f.start ≤ i
   pub few : f.unknown ≤ i
-  pub last : last_good f.latest (lines_from (open-line s f i) (drop i s)) ≡ last_good latest.None (lines_from [] s)
+  pub last : last_good f.latest (lines_from (open-line s f i) (drop i s)) ≡ last_good None (lines_from [] s)
   pub count : f.unknown + unknowns (lines_from (open-line s f i) (drop i s)) ≡ unknowns (lines_from [] s)
 
-pub going_start : (s : List ℕ) → Going s (record { start = 0; latest = latest.None; unknown = 0 }) 0
+pub going_start : (s : List ℕ) → Going s (record { start = 0; latest = None; unknown = 0 }) 0
 going_start s = record { began = omega arith; few = omega arith; last = refl; count = omega arith }
 
-one-most : (j : Judged) → one_unknown j ≤ 1
-one-most (Good s) = omega arith
-one-most UnknownVersion = omega arith
-one-most Damaged = omega arith
+one-most : (j : Result Settings Flaw) → one_unknown j ≤ 1
+one-most (Ok s) = omega arith
+one-most (Err UnknownVersion) = omega arith
+one-most (Err Damaged) = omega arith
 
 open_more : (s : List ℕ) (f : Scan) (i : ℕ) → f.start ≤ i → i < length s → open-line s f (i + 1) ≡ open-line s f i ++ get_or s i 0 ∷ []
 open_more s f i p h =
@@ -96,7 +102,7 @@ going_on s f i h g = going-by (eqb (get_or s i 0) 10) s f i refl h g
 
 -- all of them
 pub going_end : (s : List ℕ) (f : Scan) (i : ℕ) → length s ≤ i → Going s f i
-    → (f.latest ≡ last_good latest.None (lines_from [] s)) × (f.unknown ≡ unknowns (lines_from [] s))
+    → (f.latest ≡ last_good None (lines_from [] s)) × (f.unknown ≡ unknowns (lines_from [] s))
 unfolding lines_from last_good unknowns
 going_end s f i h g =
     let e = drop_of_length-le s {i = i} h in
@@ -104,7 +110,7 @@ going_end s f i h g =
     (rw e at g.last, omega (arith, q))
 
 -- what a read answers
-pub read_is : (b t : List ℕ) (a : Latest) (n : ℕ) → t ≡ store_of b → a ≡ last_good latest.None (lines_from [] t) → n ≡ unknowns (lines_from [] t)
-    → (o : Latest) → a ≡ o → answer_of o n ≡ read_of b
+pub read_is : (b t : List ℕ) (a : Option Settings) (n : ℕ) → t ≡ store_of b → a ≡ last_good None (lines_from [] t) → n ≡ unknowns (lines_from [] t)
+    → (o : Option Settings) → a ≡ o → answer_of o n ≡ read_of b
 unfolding read_of
 read_is b t a n e p q o f = rw (← e, ← p, ← q, f) refl

@@ -5,7 +5,8 @@ use mathlib.Core.Bool.{Bool, true, false}
 use mathlib.Core.List.{List, [], ◌∷◌, ◌++◌}
 use lib.Dec.{eqb}
 use lib.ListN.{length, get_or, set, take, drop, length-drop, length-take, drop_of_length-le}
-use lib.Seq.{split_at, drop-cons, get_or-take, paste, paste-suc, length-paste}
+use lib.Seq.{split_at, drop-cons, get_or-take, paste, paste-suc}
+use native.Mathlib.Numerals.{add-one}
 use native.Mathlib.Omega.{arith}
 use borrow.Author.Tests.{eq-eqb, ne_eqb, lt-ltb, le-ltb}
 use Rattle.std.specs.Prelude.{if◌then◌else◌}
@@ -93,12 +94,6 @@ module _ (b : List ℕ) (rate station : ℕ) (role : Role) (good : rate_refused 
 
 -- ---- the loop that stores
 -- one byte more
-pub stored_more : (b : List ℕ) (at : ℕ) (line now : List ℕ) (left : ℕ) → at + 15 ≤ length b → length line ≡ 15 → 0 < left → left ≤ 15
-    → now ≡ paste b at line (15 - left) → set now (at + (15 - left)) (get_or line (15 - left) 0) ≡ paste b at line (15 - (left - 1))
-stored_more b at line now left h l p m e =
-    let k : 15 - (left - 1) ≡ suc (15 - left) = omega arith in
-    rw (e, k) (paste-suc b at line (15 - left) 0 (omega arith) (omega arith))
-
-pub stored-long : (b : List ℕ) (at : ℕ) (line now : List ℕ) (left : ℕ) → at + 15 ≤ length b → length line ≡ 15
-    → now ≡ paste b at line (15 - left) → length now ≡ length b
-stored-long b at line now left h l e = ap length e ∙ length-paste b at line (15 - left) (omega arith) (omega arith)
+pub stored_more : (b : List ℕ) (at : ℕ) (line now : List ℕ) (k : ℕ) → at + 15 ≤ length b → length line ≡ 15 → k < 15
+    → now ≡ paste b at line k → set now (at + k) (get_or line k 0) ≡ paste b at line (k + 1)
+stored_more b at line now k h l p e = rw (e, add-one k) (paste-suc b at line k 0 (omega arith) (omega arith))

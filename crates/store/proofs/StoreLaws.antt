@@ -1,5 +1,6 @@
 -- What a store keeps: a write is read back, a write that stops in the middle changes nothing, and later versions disturb no reader. Assumes nothing.
-use Prim.Native.Nat.{ℕ, zero, suc, ◌+◌, ◌*◌, ◌≤◌, ◌<◌}
+use Rattle.std.specs.Prelude.{Result, Err, Option, Some, None}
+use Prim.Native.Nat.{ℕ, ◌+◌, ◌*◌, ◌≤◌, ◌<◌}
 use mathlib.Core.Path.{◌≡◌, refl, ap, ap₂, ◌∙◌}
 use mathlib.Core.Bool.{Bool, true, false}
 use mathlib.Core.List.{List, [], ◌∷◌, ◌++◌}
@@ -16,10 +17,8 @@ use Rattle.hexadecimal.specs.Hex.{hex_line}
 use Rattle.hexadecimal.proofs.HexLaws.{length-hex_line}
 use Rattle.bell103.specs.declared.Role.{Role}
 use Rattle.store.specs.declared.line.Settings.{Settings}
-use Rattle.store.specs.declared.line.Judged.{Judged}
-use Rattle.store.specs.declared.line.Judged.TheVariants.{Good, UnknownVersion, Damaged}
-use Rattle.store.specs.declared.reading.Latest.{Latest}
-use Rattle.store.specs.declared.reading.Latest.TheVariants as latest
+use Rattle.store.specs.declared.line.Flaw.{Flaw}
+use Rattle.store.specs.declared.line.Flaw.TheVariants.{Damaged}
 use Rattle.store.specs.Line.{judged, frame_of, line_of}
 use Rattle.store.specs.Store.{store_of, lines_of, unused_of, first_unused, settled, last_good, one_unknown, unknowns, answer_of, read_of, torn, write_number, Writing, writing, write_of}
 use Rattle.store.specs.Claims.{NoEnd, Admitted, AllAdmitted, found, wrote, wrote_all, numbers_all, Fills, OtherVersion, counted}
@@ -28,7 +27,7 @@ use Rattle.store.proofs.Judging.{hex_line-no-end, other-judged, line-good}
 
 -- ---- any line
 -- a line more, and what it does to a read
-last_more : (a : Latest) (ls : List (List ℕ)) (l : List ℕ) → last_good a (ls ++ l ∷ []) ≡ settled (last_good a ls) (judged l)
+last_more : (a : Option Settings) (ls : List (List ℕ)) (l : List ℕ) → last_good a (ls ++ l ∷ []) ≡ settled (last_good a ls) (judged l)
 unfolding last_good
 last_more a [] l = refl
 last_more a (m ∷ ls) l = last_more (settled a (judged m)) ls l
@@ -41,12 +40,12 @@ unknowns-more (m ∷ ls) l = let h = unknowns-more ls l in omega arith
 module _ (b l : List ℕ) (none : NoEnd l) (room : length l + 1 ≤ length (unused_of b)) where
   -- any line, ended: it is judged, and the lines before it count as before
   pub any-read : read_of (torn b (l ++ 10 ∷ []) (length l + 1))
-      ≡ answer_of (settled (last_good latest.None (lines_of b)) (judged l)) (unknowns (lines_of b) + one_unknown (judged l))
+      ≡ answer_of (settled (last_good None (lines_of b)) (judged l)) (unknowns (lines_of b) + one_unknown (judged l))
   unfolding read_of
   any-read =
       let e = (lines_more b l none room).0 in
       ap₂ answer_of
-      (ap (last_good latest.None) e ∙ last_more latest.None (lines_of b) l)
+      (ap (last_good None) e ∙ last_more None (lines_of b) l)
       (ap unknowns e ∙ unknowns-more (lines_of b) l)
 
   -- any line, of which only the first k bytes are written: all reads as before
@@ -59,14 +58,14 @@ module _ (b l : List ℕ) (none : NoEnd l) (room : length l + 1 ≤ length (unus
       rw e refl
 
   -- a damaged line is passed over
-  pub any-damaged : judged l ≡ Damaged → read_of (torn b (l ++ 10 ∷ []) (length l + 1)) ≡ read_of b
+  pub any-damaged : judged l ≡ Err Damaged → read_of (torn b (l ++ 10 ∷ []) (length l + 1)) ≡ read_of b
   unfolding read_of
   any-damaged d = any-read ∙ rw (d, add-zero) refl
 
 -- ---- later versions
-answer-counted : (a : Latest) (n : ℕ) → answer_of a (n + 1) ≡ counted (answer_of a n)
-answer-counted latest.None n = refl
-answer-counted (latest.Good s) n = refl
+answer-counted : (a : Option Settings) (n : ℕ) → answer_of a (n + 1) ≡ counted (answer_of a n)
+answer-counted None n = refl
+answer-counted (Some s) n = refl
 
 -- "A line of .. an unknown version is passed over and counted", whatever its bytes: so a version from 2 on may append or widen fields
 module _ (b f : List ℕ) (other : OtherVersion f) (room : length (hex_line f) + 1 ≤ length (unused_of b)) where
@@ -75,7 +74,7 @@ module _ (b f : List ℕ) (other : OtherVersion f) (room : length (hex_line f) +
   other-read =
       any-read b (hex_line f) (hex_line-no-end f) room
       ∙ rw (other-judged f other) refl
-      ∙ answer-counted (last_good latest.None (lines_of b)) (unknowns (lines_of b))
+      ∙ answer-counted (last_good None (lines_of b)) (unknowns (lines_of b))
 
   pub other-torn : (k : ℕ) → k ≤ length (hex_line f) → read_of (torn b (hex_line f ++ 10 ∷ []) k) ≡ read_of b
   other-torn k h = any-torn b (hex_line f) (hex_line-no-end f) room k h
@@ -134,15 +133,15 @@ module _ (b : List ℕ) (s : Settings) (w : s.station ≤ 65535) (zero : write_n
       let g = line-good s (only-accepted b s w zero).0 in
       let f : List ℕ = hex_line (frame_of s.rate s.station s.role) in
       ap₂ answer_of
-      (ap (last_good latest.None) e ∙ last_more latest.None (lines_of b) f ∙ ap (settled (last_good latest.None (lines_of b))) g)
-      (ap unknowns e ∙ unknowns-more (lines_of b) f ∙ ap (λ (j : Judged). unknowns (lines_of b) + one_unknown j) g ∙ add-zero (unknowns (lines_of b)))
+      (ap (last_good None) e ∙ last_more None (lines_of b) f ∙ ap (settled (last_good None (lines_of b))) g)
+      (ap unknowns e ∙ unknowns-more (lines_of b) f ∙ ap (λ (j : Result Settings Flaw). unknowns (lines_of b) + one_unknown j) g ∙ add-zero (unknowns (lines_of b)))
 
   wrote-unknown : unknowns (lines_of (wrote b s)) ≡ unknowns (lines_of b)
   wrote-unknown =
       let e = wrote-lines.0 in
       let g = line-good s (only-accepted b s w zero).0 in
       let f : List ℕ = hex_line (frame_of s.rate s.station s.role) in
-      ap unknowns e ∙ unknowns-more (lines_of b) f ∙ ap (λ (j : Judged). unknowns (lines_of b) + one_unknown j) g ∙ add-zero (unknowns (lines_of b))
+      ap unknowns e ∙ unknowns-more (lines_of b) f ∙ ap (λ (j : Result Settings Flaw). unknowns (lines_of b) + one_unknown j) g ∙ add-zero (unknowns (lines_of b))
 
   wrote-long : length (wrote b s) ≡ length b
   unfolding torn line_of

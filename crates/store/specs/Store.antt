@@ -1,13 +1,14 @@
 -- The store: its lines, what is unused, what a read answers, and what a write does. Assumes nothing.
+use Rattle.store.specs.declared.line.Settings.{Settings}
+use Rattle.std.specs.Prelude.{Result, Ok, Err, Option, Some, None}
 use Rattle.std.specs.Prelude.{ℕ, ◌+◌, ◌-◌, List, [], ◌∷◌, ◌++◌, ltb, eqb, length, take}
 use Rattle.std.proofs.Math.Seq.{paste}
 use Rattle.std.specs.Prelude.{if◌then◌else◌}
 use Rattle.refusal.specs.Refusals.{Reply, given, refused, first, rate_refused}
 use Rattle.bell103.specs.declared.Role.{Role}
-use Rattle.store.specs.declared.line.Judged.{Judged}
-use Rattle.store.specs.declared.line.Judged.TheVariants.{Good, UnknownVersion, Damaged}
-use Rattle.store.specs.declared.reading.Latest.{Latest}
-use Rattle.store.specs.declared.reading.Latest.TheVariants as latest
+use Rattle.store.specs.declared.line.Settings.{Settings}
+use Rattle.store.specs.declared.line.Flaw.{Flaw}
+use Rattle.store.specs.declared.line.Flaw.TheVariants.{UnknownVersion, Damaged}
 use Rattle.store.specs.declared.reading.Found.{Found}
 use Rattle.store.specs.Line.{judged, line_of}
 
@@ -39,21 +40,21 @@ first_unused b = length (store_of b) - length (unused_of b)
 
 -- ---- reading
 -- "The last good line counts": what counts after a line, where `a` did before it
-abbrev pub settled : Latest → Judged → Latest
-settled a (Good s) = latest.Good s
-settled a UnknownVersion = a
-settled a Damaged = a
+abbrev pub settled : Option Settings → Result Settings Flaw → Option Settings
+settled a (Ok s) = Some s
+settled a (Err UnknownVersion) = a
+settled a (Err Damaged) = a
 
 -- after lines
-unfoldable pub last_good : Latest → List (List ℕ) → Latest
+unfoldable pub last_good : Option Settings → List (List ℕ) → Option Settings
 last_good a [] = a
 last_good a (l ∷ ls) = last_good (settled a (judged l)) ls
 
 -- "passed over and counted": 1 of a line of unknown version, else 0
-abbrev pub one_unknown : Judged → ℕ
-one_unknown (Good s) = 0
-one_unknown UnknownVersion = 1
-one_unknown Damaged = 0
+abbrev pub one_unknown : Result Settings Flaw → ℕ
+one_unknown (Ok s) = 0
+one_unknown (Err UnknownVersion) = 1
+one_unknown (Err Damaged) = 0
 
 -- how many of some lines are of an unknown version
 unfoldable pub unknowns : List (List ℕ) → ℕ
@@ -61,13 +62,13 @@ unknowns [] = 0
 unknowns (l ∷ ls) = one_unknown (judged l) + unknowns ls
 
 -- "40 when no good line is found"; else the settings, and the number of lines of unknown version
-abbrev pub answer_of : Latest → ℕ → Reply Found
-answer_of latest.None n = refused 40
-answer_of (latest.Good s) n = given (record { settings = s; unknown = n })
+abbrev pub answer_of : Option Settings → ℕ → Reply Found
+answer_of None n = refused 40
+answer_of (Some s) n = given (record { settings = s; unknown = n })
 
 -- what a read of a buffer answers
 unfoldable pub read_of : List ℕ → Reply Found
-read_of b = answer_of (last_good latest.None (lines_of b)) (unknowns (lines_of b))
+read_of b = answer_of (last_good None (lines_of b)) (unknowns (lines_of b))
 
 -- ---- writing
 -- the buffer with only the first k bytes of a line written: "A writer puts one line at the first of them. All other bytes stay the same"

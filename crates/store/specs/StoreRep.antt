@@ -1,22 +1,18 @@
 -- How the code holds what it has read. Assumes nothing.
+use Rattle.std.specs.Prelude.{Result}
 use Rattle.std.specs.Prelude.{ℕ, ◌+◌, ◌-◌, List, eqb, get_or, take, drop}
 use Rattle.std.specs.Prelude.{if◌then◌else◌}
 use Rattle.refusal.specs.Refusals.{Reply, given, refused, number_of}
-use Rattle.store.specs.declared.line.Judged.{Judged}
+use Rattle.store.specs.declared.line.Settings.{Settings}
+use Rattle.store.specs.declared.line.Flaw.{Flaw}
 use Rattle.store.specs.declared.reading.Found.{Found}
-use Rattle.store.specs.declared.reading.Stored.{Stored}
-use Rattle.store.specs.declared.reading.Stored.TheVariants as stored
 use Rattle.store.specs.declared.reading.Scan.{Scan}
 use Rattle.store.specs.Line.{judged}
 use Rattle.store.specs.Store.{settled, one_unknown}
 
 -- what each case of an answer gives
-abbrev pub stored_of : Stored → Reply Found
-stored_of (stored.Given f) = given f
-stored_of (stored.Refused r) = refused (number_of r)
-
 -- a line passed, the next one beginning at `next`
-abbrev pub passed_line : Scan → Judged → ℕ → Scan
+abbrev pub passed_line : Scan → Result Settings Flaw → ℕ → Scan
 passed_line f j next = record { start = next; latest = settled f.latest j; unknown = f.unknown + one_unknown j }
 
 -- the byte at place i passed: 0A ends the line that began at `start`

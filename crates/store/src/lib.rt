@@ -10,5 +10,5 @@ mod reading;
 mod writing;
 
 pub use line::Settings;
-pub use reading::{Found, Stored, read};
+pub use reading::{Found, read};
 pub use writing::{unused_from, write};

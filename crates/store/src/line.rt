@@ -5,7 +5,7 @@ ghost use Rattle.hexadecimal.specs.Hex.{all_hex, unhex, total, check_of};
 ghost use Rattle.store.specs.Line.{word_at, with_role, of_version1, judged, role_byte, body_of, line_of};
 
 use bell103::Role;
-use hexadecimal::{Digits, byte, sum, test_digits};
+use hexadecimal::{byte, sum, test_digits};
 use refusal::rate_ok;
 
 // What a dealer sets before casting.
@@ -16,15 +16,15 @@ pub struct Settings {
     pub role: Role,
 }
 
-// What a line is judged to be.
+// Why a line says no settings.
 #[derive(Clone, Copy)]
-pub enum Judged {
-    Good(Settings),
+pub enum Flaw {
     UnknownVersion,
     Damaged,
 }
 
 // Two bytes of a line of digits, high byte first.
+#[tactic(auto, unfolding(crate::specs::Line::word_at))]
 fn word(s: &[u8], i: usize) -> u32
     requires { (all_hex s.now ≡ true) × (i < 1000) }
     ensures { (result ≡ word_at (unhex s.now) i) × (result < 65536) }
@@ -32,74 +32,66 @@ fn word(s: &[u8], i: usize) -> u32
     256 * byte(s, i) + byte(s, i + 1)
 }
 
-// A line of version 1, by its role byte.
-fn with_role(rate: u32, station: u16, role: u32) -> Judged
+// A line of version 1, by its role byte. (`Role` is another crate's, so there is no `TryFrom` of it here.)
+#[tactic(auto, unfolding(crate::specs::Line::with_role))]
+fn with_role(rate: u32, station: u16, role: u32) -> Result<Settings, Flaw>
     ensures { result ≡ with_role rate station role }
 {
-    if role == 0 {
-        return Judged::Good(Settings {
-            rate,
-            station,
-            role: Role::Originate,
-        });
-    }
-    if role == 1 {
-        return Judged::Good(Settings {
-            rate,
-            station,
-            role: Role::Answer,
-        });
-    }
-    Judged::Damaged
+    let role = match role {
+        0 => Role::Originate,
+        1 => Role::Answer,
+        _ => return Err(Flaw::Damaged),
+    };
+    Ok(Settings {
+        rate,
+        station,
+        role,
+    })
 }
 
 // A line of digits with its sum, of version 1.
-fn judge_version_1(s: &[u8]) -> Judged
+fn judge_version_1(s: &[u8]) -> Result<Settings, Flaw>
     requires { all_hex s.now ≡ true }
     ensures { result ≡ of_version1 (unhex s.now) }
 {
     let n = s.len() / 2;
     if n != 7 {
-        return Judged::Damaged;
+        return Err(Flaw::Damaged);
     }
     let rate = word(s, 1);
     if !rate_ok(rate) {
-        return Judged::Damaged;
+        return Err(Flaw::Damaged);
     }
     let station = word(s, 3);
     if station == 0 {
-        return Judged::Damaged;
+        return Err(Flaw::Damaged);
     }
     with_role(rate, station as u16, byte(s, 5))
 }
 
 // Any line.
-pub(crate) fn judge(s: &[u8]) -> Judged
+#[tactic(auto, unfolding(crate::specs::Line::judged, crate::specs::Line::whole))]
+pub(crate) fn judge(s: &[u8]) -> Result<Settings, Flaw>
     ensures { result ≡ judged s.now }
 {
     let n = s.len();
-    if n < 2 {
-        return Judged::Damaged;
+    if n < 2 || n % 2 == 1 {
+        return Err(Flaw::Damaged);
     }
-    let odd = n % 2;
-    if odd == 1 {
-        return Judged::Damaged;
-    }
-    let Digits::AllDigits = test_digits(s) else {
-        return Judged::Damaged;
+    let None = test_digits(s) else {
+        return Err(Flaw::Damaged);
     };
-    let t = sum(s);
-    if t != 0 {
-        return Judged::Damaged;
+    if sum(s) != 0 {
+        return Err(Flaw::Damaged);
     }
-    let v = byte(s, 0);
-    if v != 1 {
-        return Judged::UnknownVersion;
+    if byte(s, 0) != 1 {
+        return Err(Flaw::UnknownVersion);
     }
     judge_version_1(s)
 }
 
 // The character of a digit.
+#[tactic(auto, unfolding(hexadecimal::specs::Hex::digit))]
 fn char_of(d: u8) -> u8
     requires { d < 16 }
     ensures { result ≡ hex.digit d }
@@ -133,6 +125,7 @@ fn role_byte(role: Role) -> u8
 }
 
 // The byte that makes the sum divisible by 256.
+#[tactic(auto, unfolding(hexadecimal::specs::Hex::check_of, hexadecimal::specs::Hex::total))]
 fn check_of(rate: u32, station: u16, role: Role) -> u8
     requires { rate < 65536 }
     ensures { result ≡ check_of (total (body_of rate station role)) }

@@ -5,6 +5,7 @@ use mathlib.Core.List.{List}
 use mathlib.Core.Bool.{Bool, true, false}
 use lib.Dec.{eqb}
 use lib.ListN.{length, get_or}
+use native.Mathlib.Omega.{arith}
 use borrow.Author.Tests.{ltb-false, eqb-true, eqb-false, le-ltb, eq-eqb, ne_eqb}
 use lib.IntN.{pos, negsuc, ◌-ℤ◌}
 use native.Mathlib.Nat.{zero-add}
@@ -14,6 +15,9 @@ use Rattle.refusal.specs.Refusals.{first}
 use Rattle.refusal.proofs.RefusalLaws.{first-zero}
 use Rattle.hexadecimal.specs.Hex.{unhex, all_hex, total}
 use Rattle.tide.specs.Frame.{stamp_of, age_of, misfit}
+use Rattle.tide.specs.JudgeRep.{number_of}
+use Rattle.tide.specs.declared.judge.Fault.{Fault}
+use Rattle.tide.specs.declared.judge.Fault.TheVariants.{TooLong, OddOrShort, NotHexadecimal, Length, Sum, VersionMisfit, ForNewerReaders, OtherStation, Age, LevelMissing}
 use Rattle.tide.proofs.JudgeLaws.{not-false}
 use Rattle.hexadecimal.proofs.HexLaws.{or-false}
 
@@ -79,12 +83,34 @@ good-line mine l m e =
     let g = good-by _ (damage_of l m) (judged_of mine (unhex l)) refl e in
     (passes-digits l m g.0, judged-old mine (unhex l) g.1)
 
--- what a line that is not good says of the water is not read
-pub settle-bad : (n : ℕ) (r : Shown) (g : Reading) → (n ≡ 0 → ⊥) → record { answer = n; reading = r } ≡ settle n r g
-unfolding settle
-settle-bad n r g h = rw (ne_eqb n 0 h) refl
+-- a fault has a number
+fault-some : (f : Fault) → number_of f ≡ 0 → ⊥
+fault-some TooLong e = omega arith
+fault-some OddOrShort e = omega arith
+fault-some NotHexadecimal e = omega arith
+fault-some Length e = omega arith
+fault-some Sum e = omega arith
+fault-some VersionMisfit e = omega arith
+fault-some ForNewerReaders e = omega arith
+fault-some OtherStation e = omega arith
+fault-some Age e = omega arith
+fault-some LevelMissing e = omega arith
 
--- ---- the two's complement of a level
+-- a line with a fault in its frame has that number; one with none that of what its frame says
+pub by_frame : (mine : ℕ) (l : List ℕ) (m : Bool) (f : Fault) → number_of f ≡ damage_of l m → number_of f ≡ of_line mine l m
+unfolding of_line
+by_frame mine l m f e = rw (← e, ne_eqb _ _ (fault-some f)) refl
+
+pub by_said : (mine : ℕ) (l : List ℕ) (m : Bool) (n : ℕ) → 0 ≡ damage_of l m → n ≡ judged_of mine (unhex l) → n ≡ of_line mine l m
+unfolding of_line
+by_said mine l m n e h = rw (← e) h
+
+-- what a line that is not good says of the water is not read
+pub settle-bad : (f : Fault) (r : Shown) (g : Reading) → record { answer = number_of f; reading = r } ≡ settle (number_of f) r g
+unfolding settle
+settle-bad f r g = rw (ne_eqb _ _ (fault-some f)) refl
+
+-- ---- the two's complement of a level (crate `pool` cites it)
 pub minus_one : (k : ℕ) → negsuc 0 -ℤ pos k ≡ negsuc k
 minus_one zero = refl
 minus_one (suc n) = ap (λ (m : ℕ). negsuc (suc m)) (zero-add n)

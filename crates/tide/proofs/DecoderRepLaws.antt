@@ -3,11 +3,14 @@
 use Prim.Native.Nat.{ℕ, zero, suc, ◌+◌, ◌≤◌, min}
 use mathlib.Core.Path.{◌≡◌, refl, sym, ap, ap₂, ◌∙◌}
 use mathlib.Core.Logic.{◌⊎◌, inl, inr}
+use mathlib.Core.Bool.{Bool, true, false}
 use mathlib.Core.List.{List, [], ◌∷◌, ◌++◌}
 use lib.ListN.{length, get_or, set}
 use native.Mathlib.Decide.{dec_le}
 use native.Mathlib.Nat.{min-eq_left, min-eq_right}
 use native.Mathlib.Omega.{arith}
+use Rattle.std.proofs.lemmas.Option.{none-some}
+use Rattle.std.specs.Prelude.{Some, None, if◌then◌else◌}
 use Rattle.hexadecimal.specs.Hex.{total}
 use Rattle.tide.specs.Judge.{Verdict}
 use Rattle.tide.specs.Decoder.{Line, Decoder, place, bump, verdict, ended, grown, cleared, Move, ends, grows, loses, resumes, stays, move_of, move_at, moved, line_at, verdict_at, took, took_all, lines_in, verdicts_in}
@@ -127,10 +130,18 @@ alike-heard (h ∷ hs) c d e =
       ap₂ (λ (xs ys : List ℕ). xs ++ ys) (ap (verdict_at c) k ∙ verdicts-alike m c d (alike-verdict c d e)) r.2,
     )
 
--- a decoder of the code's holds as it is
-pub unheld : (d : code.Decoder) → Sound d → holding (decoder_of d) ≡ decoder_of d
+-- a move with no answer ended no line
+pub ended_none : (t : Bool) (n : ℕ) → None ≡ (if t then Some n else None) → t ≡ false
+ended_none true n e = absurd (none-some n e)
+ended_none false n e = refl
+
+-- a decoder of the code's is sound, and holds as it is
+pub sound-of : (d : code.Decoder) → Sound d
+sound-of d = record { line = record { short = d.line.short; room = d.line.room }; places = d.places; within = d.within }
+
+pub unheld : (d : code.Decoder) → holding (decoder_of d) ≡ decoder_of d
 unfolding holding
-unheld d s = rw s.within refl
+unheld d = rw d.within refl
 
 module _ (hs : List Happening) (d : Decoder) where
   twice : holding (holding d) ≡ holding d

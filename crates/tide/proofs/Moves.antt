@@ -1,183 +1,103 @@
 -- What a move, and what is heard, does to the code's decoder is what it does to the plain one. Assumes nothing.
 use Prim.Native.Nat.{ℕ, ◌+◌, ◌≤◌, ◌<◌}
-use mathlib.Core.Path.{◌≡◌, refl, sym, ap, ◌∙◌, subst}
+use mathlib.Core.Path.{◌≡◌, refl, sym, ap, ◌∙◌}
 use mathlib.Core.Bool.{Bool, true, false}
 use mathlib.Core.List.{List, [], ◌∷◌, ◌++◌, append-nil, append_assoc}
-use lib.ListN.{length, get_or, take, drop, set, length-set, length-append}
+use lib.ListN.{length, get_or, take, drop, set, length-append}
 use lib.Seq.{length-take-le, take-suc-set, drop-cons, drop-length}
 use native.Mathlib.Numerals.{add-one}
 use native.Mathlib.Omega.{arith}
-use borrow.Author.Tests.{lt-ltb, le-ltb, eq-eqb, ne_eqb}
-use Rattle.std.specs.Prelude.{if◌then◌else◌}
+use borrow.Author.Tests.{lt-ltb, le-ltb}
+use Rattle.std.proofs.lemmas.Option.{cond_some}
+use Rattle.std.specs.Prelude.{Some, None, if◌then◌else◌}
 use Rattle.hexadecimal.specs.Hex.{total}
 use Rattle.tide.specs.Judge.{Verdict, judge}
 use Rattle.tide.specs.Decoder as plain
 use Rattle.tide.specs.JudgeRep.{shown_of, verdict_of}
-use Rattle.tide.specs.DecoderRep.{line_of, decoder_of, held, holding, SoundLine, Sound, is_end, Stepped, FedOne, Feeds}
+use Rattle.tide.specs.DecoderRep.{line_of, decoder_of, held, holding, is_end, Stepped, FedOne, Feeds}
 use Rattle.happenings.specs.Happening.{bytes_in, happening_of, happenings_of}
 use Rattle.happenings.specs.declared.happening.Happening.{Happening}
-use Rattle.happenings.specs.declared.happening.Happening.TheVariants.{Byte, BadStop, Lost, Up, Down}
 use Rattle.tide.proofs.DecoderLaws.{judge-answers, bump-total, total-heard, laid_more, laid_none}
 use Rattle.tide.specs.declared.judge.Judged.{Judged}
 use Rattle.tide.specs.declared.decoder.Line.{Line}
 use Rattle.tide.specs.declared.decoder.Decoder.{Decoder}
 use Rattle.tide.specs.declared.decoder.Step.{Step}
 use Rattle.tide.specs.declared.decoder.Fed.{Fed}
-use Rattle.tide.proofs.DecoderRepLaws.{held-held, length-held, total-held, holding-heard, holding-lines, holding-verdicts, unheld}
+use Rattle.tide.proofs.DecoderRepLaws.{total-held, holding-heard, holding-lines, holding-verdicts, sound-of, unheld, ended_none}
 
-long-line : (l : Line) → SoundLine l → length (take l.len l.chars) ≡ l.len
-long-line l s = length-take-le l.len l.chars (omega arith)
+long-line : (l : Line) → length (take l.len l.chars) ≡ l.len
+long-line l = length-take-le l.len l.chars (omega (arith, l.short, l.room))
 
-pub longer-some : (l : Line) (c : ℕ) → SoundLine l → l.len < 64
-    → (line_of (record { chars = set l.chars l.len c; len = l.len + 1; more = l.more }) ≡ plain.longer (line_of l) c)
-    × SoundLine (record { chars = set l.chars l.len c; len = l.len + 1; more = l.more })
+pub longer-some : (l : Line) (c : ℕ) → l.len < 64
+    → record { chars = take (l.len + 1) (set l.chars l.len c); more = l.more } ≡ plain.longer (line_of l) c
 unfolding plain.longer
-longer-some l c s h =
-    let k : l.len < length l.chars = omega arith in (
-      rw (long-line l s, lt-ltb l.len 64 h, add-one l.len, take-suc-set l.chars l.len c k) refl,
-      record { short = omega arith; room = rw length-set s.room },
-    )
+longer-some l c h =
+    let k : l.len < length l.chars = omega (arith, l.room) in
+    rw (long-line l, lt-ltb l.len 64 h, add-one l.len, take-suc-set l.chars l.len c k) refl
 
-pub longer-none : (l : Line) (c : ℕ) → SoundLine l → 64 ≤ l.len
-    → (line_of (record { chars = l.chars; len = l.len; more = true }) ≡ plain.longer (line_of l) c)
-    × SoundLine (record { chars = l.chars; len = l.len; more = true })
+pub longer-none : (l : Line) (c : ℕ) → 64 ≤ l.len → record { chars = take l.len l.chars; more = true } ≡ plain.longer (line_of l) c
 unfolding plain.longer
-longer-none l c s h = (rw (long-line l s, le-ltb l.len 64 h) refl, record { short = s.short; room = s.room })
+longer-none l c h = rw (long-line l, le-ltb l.len 64 h) refl
 
 -- the line is judged and emptied
-pub stepped-end : (d : Decoder) (j : Judged) (cs : List ℕ) → Sound d
+pub stepped-end : (d : Decoder) (j : Judged) (r : Step)
     → verdict_of j ≡ judge d.station (shown_of d.reading) (take d.line.len d.line.chars) d.line.more
-    → cs ≡ held (plain.bump d.counts j.answer)
-    → Stepped d plain.ends
-    (record {
-      decoder = record { station = d.station; line = record { chars = d.line.chars; len = 0; more = false }; skipping = d.skipping; reading = j.reading; counts = cs };
-      ended = true;
-      answer = j.answer;
-    })
+    → decoder_of r.decoder
+    ≡ record { station = d.station; line = plain.empty_line; skipping = d.skipping; reading = shown_of j.reading; counts = held (plain.bump d.counts j.answer) }
+    → r.answer ≡ Some j.answer
+    → Stepped d plain.ends r
 unfolding plain.moved plain.ended plain.verdict holding
-stepped-end d j cs s v q =
+stepped-end d j r v q z =
     let a : plain.IsAnswer j.answer = rw (ap (λ (x : Verdict). x.answer) v) (judge-answers _ _ _ _) in
     record {
-      same = rw (← v, q) refl;
-      sound =
-          record {
-            line = record { short = omega arith; room = s.line.room };
-            places = rw (q, length-held (plain.bump d.counts j.answer)) (unfold plain.bump in rw length-set s.places);
-            within = rw (q, held-held (plain.bump d.counts j.answer)) refl;
-          };
-      few = omega (arith, ap total q, total-held (plain.bump d.counts j.answer), bump-total d.counts j.answer s.places a);
-      ended = refl;
-      answer = ap (λ (x : Verdict). x.answer) v;
+      same = rw (← v) q;
+      sound = sound-of r.decoder;
+      few =
+          omega
+          (arith, ap (λ (x : plain.Decoder). total x.counts) q, total-held (plain.bump d.counts j.answer), bump-total d.counts j.answer d.places a);
+      answer = z ∙ ap (λ (x : Verdict). Some x.answer) v;
     }
 
--- a character more
-pub stepped-on : (d : Decoder) (c : ℕ) (l : Line) → Sound d → line_of l ≡ plain.longer (line_of d.line) c → SoundLine l
-    → Stepped d (plain.grows c)
-    (record { decoder = record { station = d.station; line = l; skipping = d.skipping; reading = d.reading; counts = d.counts }; ended = false; answer = 0 })
-unfolding plain.moved plain.grown holding
-stepped-on d c l s v m =
+-- any other move
+pub stepped-on : (d : Decoder) (m : plain.Move) (r : Step) → is_end m ≡ false
+    → decoder_of r.decoder ≡ plain.moved (decoder_of d) m → r.decoder.counts ≡ d.counts → r.answer ≡ None
+    → Stepped d m r
+unfolding holding
+stepped-on d m r i q k z =
     record {
-      same = rw (← v, s.within) refl;
-      sound = record { line = m; places = s.places; within = s.within };
-      few = omega arith;
-      ended = refl;
-      answer = refl;
+      same = sym (unheld r.decoder) ∙ ap holding q;
+      sound = sound-of r.decoder;
+      few = omega (arith, ap total k);
+      answer = rw i z;
     }
-
--- a line emptied
-emptied : (d : Decoder) (skip : Bool) → Sound d
-    → Sound
-    (record {
-      station = d.station;
-      line = record { chars = d.line.chars; len = 0; more = false };
-      skipping = skip;
-      reading = d.reading;
-      counts = d.counts;
-    })
-emptied d skip s = record { line = record { short = omega arith; room = s.line.room }; places = s.places; within = s.within }
 
 -- the line is dropped
-pub stepped-clear : (d : Decoder) (skip : Bool) → Sound d
-    → Stepped d (if skip then plain.loses else plain.resumes)
-    (record {
-      decoder =
-          record {
-            station = d.station;
-            line = record { chars = d.line.chars; len = 0; more = false };
-            skipping = skip;
-            reading = d.reading;
-            counts = d.counts;
-          };
-      ended = false;
-      answer = 0;
-    })
-unfolding plain.moved plain.cleared holding
-stepped-clear d true s = record { same = rw s.within refl; sound = emptied d true s; few = omega arith; ended = refl; answer = refl }
-stepped-clear d false s = record { same = rw s.within refl; sound = emptied d false s; few = omega arith; ended = refl; answer = refl }
+pub stepped-clear : (d : Decoder) (skip : Bool) (r : Step)
+    → decoder_of r.decoder ≡ plain.cleared (decoder_of d) skip → r.decoder.counts ≡ d.counts → r.answer ≡ None
+    → Stepped d (if skip then plain.loses else plain.resumes) r
+unfolding plain.moved
+stepped-clear d true r q k z = stepped-on d plain.loses r refl q k z
+stepped-clear d false r q k z = stepped-on d plain.resumes r refl q k z
 
--- nothing changes
-pub stepped-stay : (d : Decoder) → Sound d → Stepped d plain.stays (record { decoder = d; ended = false; answer = 0 })
-unfolding plain.moved holding
-stepped-stay d s = record { same = rw s.within refl; sound = s; few = omega arith; ended = refl; answer = refl }
-
--- the move that a byte makes, by the two tests
-pub move-resumes : (skipping : Bool) (c : ℕ) → skipping ≡ true → c ≡ 10 → plain.resumes ≡ plain.move_of (Byte c) skipping
-unfolding plain.move_of plain.byte_move
-move-resumes skipping c p q = rw (p, eq-eqb c 10 q)
-
-pub move-skips : (skipping : Bool) (c : ℕ) → skipping ≡ true → (c ≡ 10 → ⊥) → plain.stays ≡ plain.move_of (Byte c) skipping
-unfolding plain.move_of plain.byte_move
-move-skips skipping c p q = rw (p, ne_eqb c 10 q)
-
-pub move-ends : (skipping : Bool) (c : ℕ) → skipping ≡ false → c ≡ 10 → plain.ends ≡ plain.move_of (Byte c) skipping
-unfolding plain.move_of plain.byte_move
-move-ends skipping c p q = rw (p, eq-eqb c 10 q)
-
-pub move-grows : (skipping : Bool) (c : ℕ) → skipping ≡ false → (c ≡ 10 → ⊥) → plain.grows c ≡ plain.move_of (Byte c) skipping
-unfolding plain.move_of plain.byte_move
-move-grows skipping c p q = rw (p, ne_eqb c 10 q)
-
--- the move that any other happening makes
-pub move-bad : (skipping : Bool) → plain.stays ≡ plain.move_of BadStop skipping
-unfolding plain.move_of
-move-bad skipping = refl
-
-pub move-lost : (skipping : Bool) → plain.loses ≡ plain.move_of Lost skipping
-unfolding plain.move_of
-move-lost skipping = refl
-
-pub move_up : (skipping : Bool) → plain.stays ≡ plain.move_of Up skipping
-unfolding plain.move_of
-move_up skipping = refl
-
-pub move_down : (skipping : Bool) → plain.stays ≡ plain.move_of Down skipping
-unfolding plain.move_of
-move_down skipping = refl
-
--- the same move by another name
-pub by_move : (d : Decoder) (r : Step) (m n : plain.Move) → m ≡ n → Stepped d m r → Stepped d n r
-by_move d r m n e s = subst (λ (x : plain.Move). Stepped d x r) e s
-
-pub one_end : (f : Fed) (h : Happening) (t : Step) (out out' : List ℕ) → Stepped f.decoder (plain.move_at (decoder_of f.decoder) h) t → t.ended ≡ true
-    → out' ≡ set out f.lines t.answer
-    → FedOne f h out (record { decoder = t.decoder; lines = f.lines + 1; last = t.answer }) out'
+pub one_end : (f : Fed) (h : Happening) (t : Step) (a : ℕ) (out out' : List ℕ) → Stepped f.decoder (plain.move_at (decoder_of f.decoder) h) t
+    → t.answer ≡ Some a → out' ≡ set out f.lines a
+    → FedOne f h out (record { decoder = t.decoder; lines = f.lines + 1; last = a }) out'
 unfolding plain.took
-one_end f h t out out' s e v =
-    let k : is_end (plain.move_at (decoder_of f.decoder) h) ≡ true = sym s.ended ∙ e in
-    let a : t.answer ≡ (plain.verdict (decoder_of f.decoder)).answer = rw k at s.answer in
+one_end f h t a out out' s e v =
+    let k = cond_some _ _ a (sym s.answer ∙ e) in
     record {
       same = s.same;
       sound = s.sound;
-      lines = rw k refl;
-      last = rw k a;
-      verdicts = rw (k, ← a) v;
+      lines = rw k.0 refl;
+      last = rw k.0 (sym k.1);
+      verdicts = rw (k.0, k.1) v;
     }
 
-pub one_on : (f : Fed) (h : Happening) (t : Step) (out : List ℕ) → Stepped f.decoder (plain.move_at (decoder_of f.decoder) h) t → t.ended ≡ false
+pub one_on : (f : Fed) (h : Happening) (t : Step) (out : List ℕ) → Stepped f.decoder (plain.move_at (decoder_of f.decoder) h) t → t.answer ≡ None
     → FedOne f h out (record { decoder = t.decoder; lines = f.lines; last = f.last }) out
 unfolding plain.took
 one_on f h t out s e =
-    let k : is_end (plain.move_at (decoder_of f.decoder) h) ≡ false = sym s.ended ∙ e in
+    let k = ended_none _ _ (sym e ∙ s.answer) in
     record {
       same = s.same;
       sound = s.sound;
@@ -197,12 +117,11 @@ pub record Going (d : Decoder) (cs out : List ℕ) (i : ℕ) (f : Fed) (out' : L
   pub all : given ++ plain.verdicts_in (decoder_of f.decoder) (happenings_of (drop i cs)) ≡ plain.verdicts_in (decoder_of d) (happenings_of cs)
   pub each : length given ≡ f.lines
   pub laid : out' ≡ plain.laid_in given out
-  pub sound : Sound f.decoder
   pub upto : f.lines ≤ i
 
-pub going_start : (d : Decoder) (cs out : List ℕ) → Sound d → Going d cs out 0 (record { decoder = d; lines = 0; last = 0 }) out
-going_start d cs out s =
-    record { decoder = refl; lines = omega arith; last = refl; given = []; all = refl; each = refl; laid = sym (laid_none out); sound = s; upto = omega arith }
+pub going_start : (d : Decoder) (cs out : List ℕ) → Going d cs out 0 (record { decoder = d; lines = 0; last = 0 }) out
+going_start d cs out =
+    record { decoder = refl; lines = omega arith; last = refl; given = []; all = refl; each = refl; laid = sym (laid_none out); upto = omega arith }
 
 last-by : (m : plain.Move) (d : plain.Decoder) (l : ℕ) (r : List ℕ)
     → plain.last_of (if is_end m then (plain.verdict d).answer else l) r ≡ plain.last_of l (plain.verdict_at d m ++ r)
@@ -260,28 +179,27 @@ going_on d cs out i f r o o' g h b =
       all = rw (b.same, holding-verdicts rest next, append_assoc) (rw e at g.all);
       each = rw b.lines (each-by m p g.given f.lines g.each);
       laid = rw (b.verdicts, g.laid) (laid_by m p g.given out f.lines g.each);
-      sound = b.sound;
       upto = omega (arith, g.upto, b.lines, upto_by (is_end m));
     }
 
 -- the counts together grow by no more than the bytes
-few-of : (hs : List Happening) (d : Decoder) (f : Fed) → Sound d → decoder_of f.decoder ≡ holding (plain.took_all (decoder_of d) hs)
+few-of : (hs : List Happening) (d : Decoder) (f : Fed) → decoder_of f.decoder ≡ holding (plain.took_all (decoder_of d) hs)
     → total f.decoder.counts ≤ total d.counts + length (bytes_in hs)
 unfolding holding
-few-of hs d f s w =
-    omega (arith, ap (λ (x : plain.Decoder). total x.counts) w, total-held (plain.took_all (decoder_of d) hs).counts, total-heard hs (decoder_of d) s.places)
+few-of hs d f w =
+    omega (arith, ap (λ (x : plain.Decoder). total x.counts) w, total-held (plain.took_all (decoder_of d) hs).counts, total-heard hs (decoder_of d) d.places)
 
-pub going_end : (d : Decoder) (cs out : List ℕ) (i : ℕ) (f : Fed) (o : List ℕ) → Sound d → Going d cs out i f o → i ≤ length cs → length cs ≤ i
+pub going_end : (d : Decoder) (cs out : List ℕ) (i : ℕ) (f : Fed) (o : List ℕ) → Going d cs out i f o → i ≤ length cs → length cs ≤ i
     → Feeds d (happenings_of cs) out f o
 unfolding plain.took_all plain.lines_in plain.verdicts_in plain.last_of happenings_of
-going_end d cs out i f o s g p q =
+going_end d cs out i f o g p q =
     let e : i ≡ length cs = omega arith in
     let k : drop i cs ≡ [] = rw (e, drop-length cs) refl in
-    let w : decoder_of f.decoder ≡ holding (plain.took_all (decoder_of d) (happenings_of cs)) = sym (unheld f.decoder g.sound) ∙ (rw k at g.decoder) in
+    let w : decoder_of f.decoder ≡ holding (plain.took_all (decoder_of d) (happenings_of cs)) = sym (unheld f.decoder) ∙ (rw k at g.decoder) in
     record {
       same = w;
-      sound = g.sound;
-      few = few-of (happenings_of cs) d f s w;
+      sound = sound-of f.decoder;
+      few = few-of (happenings_of cs) d f w;
       lines = omega (arith, rw k at g.lines);
       last = rw k at g.last;
       verdicts = g.laid ∙ ap (λ (vs : List ℕ). plain.laid_in vs out) (sym (append-nil g.given) ∙ (rw k at g.all));

@@ -1,5 +1,5 @@
 -- The decoder: what is heard collected into lines, the lines judged, and their answers counted; and what is claimed of many lines. Assumes nothing.
-use Rattle.std.specs.Prelude.{ℕ, ◌+◌, ◌-◌, ◌≤◌, ◌<◌, ◌≡◌, ◌⊎◌, ◌↔◌, Bool, true, false, ◌&&◌, List, [], ◌∷◌, ◌++◌, ltb, leb, eqb, length, get_or, set, take, drop, replicate}
+use Rattle.std.specs.Prelude.{ℕ, ◌+◌, ◌-◌, ◌≤◌, ◌<◌, ◌≡◌, ◌⊎◌, ◌↔◌, Bool, true, false, ◌&&◌, Option, Some, None, List, [], ◌∷◌, ◌++◌, ltb, leb, eqb, length, get_or, set, take, drop, replicate}
 use Rattle.std.specs.Prelude.{if◌then◌else◌}
 use Rattle.hexadecimal.specs.Hex.{unhex, total}
 use Rattle.tide.specs.Frame.{reader_of, Writer, Rules, line_by}
@@ -36,6 +36,10 @@ IsAnswer n = (n ≡ 0) ⊎ (((11 ≤ n) × (n ≤ 20)) ⊎ (n ≡ 34))
 -- which count an answer has: 0 (shown) the first, then 11 to 20, then 34; a number that is no answer has none
 unfoldable pub place : ℕ → ℕ
 place n = if eqb n 0 then 0 else (if eqb n 34 then 11 else (if leb 11 n && leb n 20 then n - 10 else 12))
+
+-- which of the twelve counts, if one
+unfoldable pub place_in : ℕ → Option ℕ
+place_in n = if ltb (place n) 12 then Some (place n) else None
 
 -- the count of an answer, and 0 for a number that is none
 abbrev pub count_of : Decoder → ℕ → ℕ

@@ -1,11 +1,12 @@
 -- How the code holds what specs/Decoder.antt speaks of, the invariant of its states, and what each call does. Assumes nothing.
-use Rattle.std.specs.Prelude.{ℕ, ◌+◌, ◌≤◌, min, ◌≡◌, Bool, true, false, List, [], ◌∷◌, length, take, set}
+use Rattle.std.specs.Prelude.{ℕ, ◌+◌, ◌≤◌, ◌≡◌, Bool, true, false, Some, None, List, length, take, set}
 use Rattle.std.specs.Prelude.{if◌then◌else◌}
 use Rattle.hexadecimal.specs.Hex.{total}
 use Rattle.happenings.specs.Happening.{bytes_in}
 use Rattle.happenings.specs.declared.happening.Happening.{Happening}
 use Rattle.tide.specs.JudgeRep.{shown_of}
 use Rattle.tide.specs.Decoder as plain
+unfoldable pub use Rattle.tide.specs.Held.{most_count, held}
 use Rattle.tide.specs.declared.decoder.Line.{Line}
 use Rattle.tide.specs.declared.decoder.Decoder.{Decoder}
 use Rattle.tide.specs.declared.decoder.Step.{Step}
@@ -19,19 +20,12 @@ line_of l = record { chars = take l.len l.chars; more = l.more }
 abbrev pub decoder_of : Decoder → plain.Decoder
 decoder_of d = record { station = d.station; line = line_of d.line; skipping = d.skipping; reading = shown_of d.reading; counts = d.counts }
 
--- ---- counts of 64 bits: each holds at the most that it can say, 18,446,744,073,709,551,615
-abbrev pub most_count : ℕ
-most_count = 18446744073709551615
-
-unfoldable pub held : List ℕ → List ℕ
-held [] = []
-held (n ∷ cs) = min n most_count ∷ held cs
-
+-- ---- counts that hold
 -- a decoder whose counts hold there; it is the same decoder while all counts together are no more (proofs/DecoderLaws.antt, holds)
 unfoldable pub holding : plain.Decoder → plain.Decoder
 holding d = record { station = d.station; line = d.line; skipping = d.skipping; reading = d.reading; counts = held d.counts }
 
--- ---- a state that `new` or a later call gave
+-- ---- what each value of the code's types keeps (proofs/DecoderRepLaws.antt, sound-of)
 pub record SoundLine (l : Line) : Type 0 where
   pub short : l.len ≤ 64
   pub room : length l.chars ≡ 64
@@ -55,13 +49,12 @@ is_end plain.loses = false
 is_end plain.resumes = false
 is_end plain.stays = false
 
--- one move: the decoder after it, whether it ended a line, and that line's answer (0 where it ended none)
+-- one move: the decoder after it, and the answer of the line that it ended, if it ended one
 pub record Stepped (d : Decoder) (m : plain.Move) (r : Step) : Type 0 where
   pub same : decoder_of r.decoder ≡ holding (plain.moved (decoder_of d) m)
   pub sound : Sound r.decoder
   pub few : total r.decoder.counts ≤ total d.counts + 1
-  pub ended : r.ended ≡ is_end m
-  pub answer : r.answer ≡ (if is_end m then (plain.verdict (decoder_of d)).answer else 0)
+  pub answer : r.answer ≡ (if is_end m then Some (plain.verdict (decoder_of d)).answer else None)
 
 -- what is heard: the decoder after it, the number of lines ended, the last one's answer (0 also when none ended), and in the lent slice
 -- the answers of all of them

@@ -3,5 +3,6 @@ pub mod Frame
 pub mod Judge
 pub mod JudgeRep
 pub mod Decoder
+pub mod Held
 pub mod DecoderRep
 pub mod Lines

@@ -1,22 +1,19 @@
 // The decoder: the unended line, whether what comes is skipped, the reading and the counts, and what is heard does to them.
-ghost use Rattle.std.specs.Prelude.{◌≡◌, ◌+◌, ◌<◌, min, length, set};
-ghost use Rattle.std.specs.Prelude.{if◌then◌else◌};
-ghost use Rattle.happenings.specs.Happening.{happenings_of};
-ghost use Rattle.happenings.specs.declared.happening.Happening.TheVariants.{Byte};
-ghost use Rattle.tide.specs.Decoder.{IsAnswer, place, count_of, bump, longer, ends, grows, loses, resumes, stays, move_of};
-ghost use Rattle.tide.specs.JudgeRep.{shown_of};
-ghost use Rattle.tide.specs.DecoderRep.{line_of, decoder_of, most_count, held, SoundLine, Sound, Made, Stepped, FedOne, Feeds};
+ghost use Rattle.std.specs.Prelude.{◌≡◌, ◌≤◌, ◌+◌, ◌<◌, length, set};
+ghost use Rattle.tide.specs.Decoder.{bump, place_in};
+ghost use Rattle.tide.specs.Held.{most_count, held};
 
-use crate::Shown;
-use crate::judge::judge_line;
+use crate::judge::{Reading, judge_line};
 use happenings::{Happening, happening_of};
 
-// A line: its first 64 characters, and whether there were more.
+// A line: its first 64 characters, and whether there were more. An array with a count, since memory is fixed.
 #[derive(Clone, Copy)]
 pub struct Line {
     chars: [u8; 64],
     len: usize,
     more: bool,
+    ghost short: { len ≤ 64 },
+    ghost room: { length chars ≡ 64 },
 }
 
 // What is heard changes: the station's unended line, whether what comes is skipped, its reading, and its counts.
@@ -26,17 +23,18 @@ pub struct Decoder {
     line: Line,
     // From a lost carrier up to and including the next 0A.
     skipping: bool,
-    reading: Shown,
+    reading: Option<Reading>,
     // One for each line answer: 0, 11 to 20, 34.
     counts: [u64; 12],
+    pub ghost places: { length counts ≡ 12 },
+    pub ghost within: { held counts ≡ counts },
 }
 
-// What a happening did: whether it ended a line, and that line's answer.
+// What a happening did: the answer of the line that it ended, if it ended one.
 #[derive(Clone, Copy)]
 pub struct Step {
     pub decoder: Decoder,
-    pub ended: bool,
-    pub answer: u8,
+    pub answer: Option<u8>,
 }
 
 // What was heard did: how many lines it ended, and the last one's answer.
@@ -47,186 +45,151 @@ pub struct Fed {
     pub last: u8,
 }
 
-// Where a count holds.
-const MOST_COUNT: u64 = 18446744073709551615;
-
-// Which count an answer has; 12 for a number that is no answer.
-fn place_of(a: u8) -> usize
-    ensures { result ≡ place a }
+// Which count an answer has; a number that is no answer has none.
+#[tactic(auto, unfolding(crate::specs::Decoder::place, crate::specs::Decoder::place_in))]
+fn place_of(answer: u8) -> Option<usize>
+    ensures { result ≡ place_in answer }
 {
-    if a == 0 {
-        return 0;
+    match answer {
+        0 => Some(0),
+        11..=20 => Some((answer as usize) - 10),
+        34 => Some(11),
+        _ => None,
     }
-    if a == 34 {
-        return 11;
-    }
-    if a < 11 {
-        return 12;
-    }
-    if a <= 20 {
-        return (a as usize) - 10;
-    }
-    12
 }
 
-fn one_more(n: u64) -> u64
-    ensures { result ≡ min (n + 1) most_count }
+// The counts with one more at an answer, where it holds.
+#[tactic(auto, using(crate::proofs::Stores::place_some))]
+fn counted(mut counts: [u64; 12], answer: u8) -> [u64; 12]
+    requires { (length counts ≡ 12) × (held counts ≡ counts) }
+    ensures { result ≡ held (bump counts answer) }
 {
-    if n < MOST_COUNT {
-        return n + 1;
+    if let Some(place) = place_of(answer) {
+        counts[place] = counts[place].saturating_add(1);
     }
-    MOST_COUNT
+    counts
 }
 
-// The counts with one more at an answer.
-fn counted(cs: [u64; 12], a: u8) -> [u64; 12]
-    requires { IsAnswer a × (length cs ≡ 12) × (held cs ≡ cs) }
-    ensures { result ≡ held (bump cs a) }
+// Stores an answer at its place, where there is room.
+fn lay(verdicts: &mut [u8], place: u64, answer: u8)
+    ensures { verdicts.new ≡ set verdicts.old place answer }
 {
-    let k = place_of(a);
-    let mut r = cs;
-    r[k] = one_more(r[k]);
-    r
+    // An index: `get_mut` does not say what the slice is after it.
+    let place = place as usize;
+    if place < verdicts.len() {
+        verdicts[place] = answer;
+    }
 }
 
-fn longer_line(l: Line, c: u8) -> Line
-    requires { SoundLine l }
-    ensures { (line_of result ≡ longer (line_of l) c) × SoundLine result }
-{
-    let n = l.len;
-    let mut s = l.chars;
-    if n < 64 {
-        s[n] = c;
-        return Line {
-            chars: s,
-            len: n + 1,
-            more: l.more,
-        };
+impl Line {
+    ghost use Rattle.tide.specs.Decoder.{longer, empty_line};
+    ghost use Rattle.tide.specs.DecoderRep.{line_of};
+
+    fn new() -> Line
+        ensures { line_of result ≡ empty_line }
+    {
+        Line {
+            chars: [0; 64],
+            len: 0,
+            more: false,
+        }
     }
-    Line {
-        chars: s,
-        len: n,
-        more: true,
+
+    fn longer(mut self, c: u8) -> Line
+        ensures { line_of result ≡ longer (line_of self) c }
+    {
+        if self.len < 64 {
+            self.chars[self.len] = c;
+            self.len += 1;
+            return self;
+        }
+        self.more = true;
+        self
+    }
+
+    fn emptied(mut self) -> Line
+        ensures { line_of result ≡ empty_line }
+    {
+        self.len = 0;
+        self.more = false;
+        self
     }
 }
 
 impl Decoder {
+    ghost use Rattle.std.specs.Prelude.{if◌then◌else◌};
+    ghost use Rattle.happenings.specs.Happening.{happenings_of};
+    ghost use Rattle.happenings.specs.declared.happening.Happening.TheVariants.{Byte};
+    ghost use Rattle.tide.specs.Decoder.{count_of, ends, grows, loses, resumes, stays, move_of};
+    ghost use Rattle.tide.specs.JudgeRep.{shown_of};
+    ghost use Rattle.tide.specs.DecoderRep.{decoder_of, Made, Stepped, Feeds};
+
     // A fresh decoder for a station.
     pub fn new(station: u16) -> Decoder
         ensures { Made station result }
     {
-        let line = Line {
-            chars: [0; 64],
-            len: 0,
-            more: false,
-        };
         Decoder {
-            station: station,
-            line: line,
+            station,
+            line: Line::new(),
             skipping: false,
-            reading: Shown::None,
+            reading: None,
             counts: [0; 12],
         }
     }
 
     // The line is judged, counted and emptied.
     fn end_line(self) -> Step
-        requires { Sound self }
         ensures { Stepped self ends result }
     {
-        let l = self.line;
-        let ch = l.chars;
-        let n = l.len;
-        let rd = self.reading;
-        let j = judge_line(&ch[..n], l.more, self.station as u32, rd);
-        let cs = self.counts;
-        let nr = j.reading;
-        let nc = counted(cs, j.answer);
-        let nl = Line {
-            chars: ch,
-            len: 0,
-            more: false,
-        };
-        let nd = Decoder {
-            station: self.station,
-            line: nl,
-            skipping: self.skipping,
-            reading: nr,
-            counts: nc,
-        };
+        let line = self.line;
+        let text = &line.chars[..line.len];
+        let judged = judge_line(text, line.more, self.station as u32, self.reading);
+        let mut decoder = self;
+        decoder.line = line.emptied();
+        decoder.reading = judged.reading;
+        decoder.counts = counted(self.counts, judged.answer);
         Step {
-            decoder: nd,
-            ended: true,
-            answer: j.answer,
+            decoder,
+            answer: Some(judged.answer),
         }
     }
 
     // The line is one character longer.
-    fn grow(self, c: u8) -> Step
-        requires { Sound self }
+    fn grow(mut self, c: u8) -> Step
         ensures { Stepped self (grows c) result }
     {
-        let l = self.line;
-        let rd = self.reading;
-        let cs = self.counts;
-        let longer = longer_line(l, c);
-        let nd = Decoder {
-            station: self.station,
-            line: longer,
-            skipping: self.skipping,
-            reading: rd,
-            counts: cs,
-        };
+        self.line = self.line.longer(c);
         Step {
-            decoder: nd,
-            ended: false,
-            answer: 0,
+            decoder: self,
+            answer: None,
         }
     }
 
     // The line is dropped; what comes is skipped, or no more.
-    fn clear(self, skip: bool) -> Step
-        requires { Sound self }
+    fn clear(mut self, skip: bool) -> Step
         ensures { Stepped self (if skip then loses else resumes) result }
     {
-        let l = self.line;
-        let ch = l.chars;
-        let rd = self.reading;
-        let cs = self.counts;
-        let empty = Line {
-            chars: ch,
-            len: 0,
-            more: false,
-        };
-        let nd = Decoder {
-            station: self.station,
-            line: empty,
-            skipping: skip,
-            reading: rd,
-            counts: cs,
-        };
+        self.line = self.line.emptied();
+        self.skipping = skip;
         Step {
-            decoder: nd,
-            ended: false,
-            answer: 0,
+            decoder: self,
+            answer: None,
         }
     }
 
     // Nothing changes.
     fn stay(self) -> Step
-        requires { Sound self }
         ensures { Stepped self stays result }
     {
         Step {
             decoder: self,
-            ended: false,
-            answer: 0,
+            answer: None,
         }
     }
 
     // Takes one byte: 0A ends the line, or what is skipped.
+    #[tactic(auto, unfolding(crate::specs::Decoder::move_of, crate::specs::Decoder::byte_move))]
     pub fn add_byte(self, c: u8) -> Step
-        requires { Sound self }
         ensures { Stepped self (move_of (Byte c) self.skipping) result }
     {
         if self.skipping {
@@ -242,8 +205,8 @@ impl Decoder {
     }
 
     // Takes what happened at a step: a byte; or the carrier was lost, which voids the line.
+    #[tactic(auto, unfolding(crate::specs::Decoder::move_of))]
     pub fn take(self, h: Happening) -> Step
-        requires { Sound self }
         ensures { Stepped self (move_of h self.skipping) result }
     {
         match h {
@@ -258,7 +221,6 @@ impl Decoder {
     // Takes what was heard, in order, by its codes; the answers of the lines that it ends go to the front of `verdicts`, as many as have
     // room there.
     pub fn feed(self, codes: &[u16], verdicts: &mut [u8]) -> Fed
-        requires { Sound self }
         ensures { Feeds self (happenings_of codes.now) verdicts.old result verdicts.new }
     {
         let mut f = Fed {
@@ -266,11 +228,8 @@ impl Decoder {
             lines: 0,
             last: 0,
         };
-        let mut i = 0;
-        while i < codes.len() {
-            let h = happening_of(codes[i]);
-            f = feed_one(f, h, verdicts);
-            i += 1;
+        for &code in codes {
+            f = f.after(happening_of(code), verdicts);
         }
         f
     }
@@ -283,7 +242,7 @@ impl Decoder {
     }
 
     // What the decoder shows.
-    pub fn reading(self) -> Shown
+    pub fn reading(self) -> Option<Reading>
         ensures { shown_of result ≡ (decoder_of self).reading }
     {
         self.reading
@@ -297,47 +256,34 @@ impl Decoder {
     }
 
     // How often an answer was given; 0 for a number that is no answer.
+    #[tactic(auto, using(crate::proofs::Stores::place_some))]
     pub fn count(self, answer: u8) -> u64
-        requires { Sound self }
         ensures { result ≡ count_of (decoder_of self) answer }
     {
-        let k = place_of(answer);
-        let cs = self.counts;
-        if k < 12 {
-            return cs[k];
+        match place_of(answer) {
+            Some(place) => self.counts[place],
+            None => 0,
         }
-        0
     }
 }
 
-// Stores an answer at its place, where there is room.
-fn lay(verdicts: &mut [u8], n: u64, answer: u8)
-    ensures { verdicts.new ≡ set verdicts.old n answer }
-{
-    let k = n as usize;
-    if k < verdicts.len() {
-        verdicts[k] = answer;
-    }
-}
+impl Fed {
+    ghost use Rattle.tide.specs.DecoderRep.{FedOne};
 
-// A happening more of several: the decoder, the lines ended so far, the last one's answer, and all answers.
-fn feed_one(f: Fed, h: Happening, verdicts: &mut [u8]) -> Fed
-    requires { Sound f.decoder × (f.lines < most_count) }
-    ensures { FedOne f h verdicts.old result verdicts.new }
-{
-    let t = f.decoder.take(h);
-    let d = t.decoder;
-    if t.ended {
-        lay(verdicts, f.lines, t.answer);
-        return Fed {
-            decoder: d,
-            lines: f.lines + 1,
-            last: t.answer,
+    // A happening more: the decoder, the lines ended so far, the last one's answer, and all answers.
+    fn after(self, h: Happening, verdicts: &mut [u8]) -> Fed
+        requires { self.lines < most_count }
+        ensures { FedOne self h verdicts.old result verdicts.new }
+    {
+        let Step { decoder, answer } = self.decoder.take(h);
+        let Some(answer) = answer else {
+            return Fed { decoder, ..self };
         };
-    }
-    Fed {
-        decoder: d,
-        lines: f.lines,
-        last: f.last,
+        lay(verdicts, self.lines, answer);
+        Fed {
+            decoder,
+            lines: self.lines + 1,
+            last: answer,
+        }
     }
 }

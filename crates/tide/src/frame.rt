@@ -1,38 +1,66 @@
-// The fields of the frame that a line's digits say.
+// The frame that a line of digits says.
 ghost use Rattle.std.specs.Prelude.{◌≡◌, true, ◌<◌};
 ghost use Rattle.hexadecimal.specs.Hex.{all_hex, unhex};
-ghost use Rattle.tide.specs.Frame.{station_of, stamp_of, age_of, level_of, signed};
+ghost use Rattle.tide.specs.Frame.{reader_of, station_of, stamp_of, age_of, level_of, signed};
 
 use hexadecimal::byte;
 
-pub(crate) fn station_of(s: &[u8]) -> u32
-    ensures { result ≡ station_of (unhex s.now) }
-{
-    256 * byte(s, 3) + byte(s, 4)
+// A line of digits.
+#[derive(Clone, Copy)]
+pub(crate) struct Frame<'a> {
+    line: &'a [u8],
+    pub ghost digits: { all_hex line.now ≡ true },
 }
 
-pub(crate) fn stamp_of(s: &[u8]) -> u32
-    requires { all_hex s.now ≡ true }
-    ensures { result ≡ stamp_of (unhex s.now) }
-{
-    16777216 * byte(s, 5) + 65536 * byte(s, 6) + 256 * byte(s, 7) + byte(s, 8)
-}
+impl<'a> Frame<'a> {
+    pub(crate) fn new(line: &'a [u8]) -> Frame<'a>
+        requires { all_hex line.now ≡ true }
+        ensures { result.line.now ≡ line.now }
+    {
+        Frame { line }
+    }
 
-pub(crate) fn age_of(s: &[u8]) -> u32
-    ensures { result ≡ age_of (unhex s.now) }
-{
-    byte(s, 9)
-}
+    pub(crate) fn reader(self) -> u32
+        ensures { result ≡ reader_of (unhex self.entry.line.now) }
+    {
+        byte(self.line, 1)
+    }
 
-// The level's sixteen bits.
-pub(crate) fn level_bits(s: &[u8]) -> u32
-    requires { all_hex s.now ≡ true }
-    ensures { (result ≡ level_of (unhex s.now)) × (result < 65536) }
-{
-    256 * byte(s, 10) + byte(s, 11)
+    #[tactic(auto, unfolding(crate::specs::Frame::station_of))]
+    pub(crate) fn station(self) -> u32
+        ensures { result ≡ station_of (unhex self.entry.line.now) }
+    {
+        256 * byte(self.line, 3) + byte(self.line, 4)
+    }
+
+    #[tactic(auto, unfolding(crate::specs::Frame::stamp_of))]
+    pub(crate) fn stamp(self) -> u32
+        ensures { result ≡ stamp_of (unhex self.entry.line.now) }
+    {
+        16777216 * byte(self.line, 5)
+            + 65536 * byte(self.line, 6)
+            + 256 * byte(self.line, 7)
+            + byte(self.line, 8)
+    }
+
+    #[tactic(auto, unfolding(crate::specs::Frame::age_of))]
+    pub(crate) fn age(self) -> u32
+        ensures { result ≡ age_of (unhex self.entry.line.now) }
+    {
+        byte(self.line, 9)
+    }
+
+    // The level's sixteen bits.
+    #[tactic(auto, unfolding(crate::specs::Frame::level_of))]
+    pub(crate) fn level_bits(self) -> u32
+        ensures { (result ≡ level_of (unhex self.entry.line.now)) × (result < 65536) }
+    {
+        256 * byte(self.line, 10) + byte(self.line, 11)
+    }
 }
 
 // The number that sixteen bits say, with a sign.
+#[tactic(auto, unfolding(crate::specs::Frame::signed))]
 pub(crate) fn level_of(v: u32) -> i16
     requires { v < 65536 }
     ensures { result ≡ signed v }

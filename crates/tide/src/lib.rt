@@ -10,4 +10,4 @@ mod frame;
 mod judge;
 
 pub use decoder::{Decoder, Fed, Step};
-pub use judge::{Reading, Shown};
+pub use judge::Reading;

@@ -8,22 +8,20 @@ use native.Mathlib.Omega.{arith}
 use borrow.Author.Tests.{lt-ltb, le-ltb, eq-eqb, ne_eqb, eqb-true, eqb-false}
 use lib.Dec.{eqb, lit<}
 use lib.ListN.{length, length-append}
-use Rattle.std.specs.Prelude.{if◌then◌else◌}
+use Rattle.std.specs.Prelude.{if◌then◌else◌, Ok, Some}
 use Rattle.refusal.specs.Refusals.{rate_refused}
-use Rattle.wav.specs.Sample.{sample_of, bytes_in, upper_of, sample_in}
-use Rattle.wav.specs.Wav.{riff, wave, fmt, data', fresh_wav, raw_wav, raw16_wav, step, moved, words, framed, counting, going, fixed, skip, padded, named, format_size, settle_as, settle, shape_word, data_size, next_frame, over_others, sampled, done, add_byte, finish_frame, finish_of}
+use Rattle.wav.specs.Sample.{sample_of, bytes_in, upper_of}
+use Rattle.wav.specs.Wav.{riff, wave, fmt, data', fresh_wav, raw_wav, raw16_wav, step, words, framed, counting, going, fixed, skip, padded, named, format_size, settle_as, settle, shape_word, data_size, next_frame, over_others, sampled, done, add_byte, finish_frame, finish_of}
 use Rattle.wav.specs.Words.{shifted, last_four, pcm_known, float_known, only8, encoding_of, is_endless}
-use Rattle.wav.specs.Recording.{two, three, four, eight, tag_of, written, Frame, frame_bytes, Frames, Chunk, pad, chunk_bytes, Others, Extension, plain, extensible, front_tag, extension_bytes, Extends, Recording, align_of, opening, format_chunk, data_head, header, Proper, Tells, emits, outs, after, samples}
+use Rattle.wav.specs.Recording.{two, three, four, eight, tag_of, written, Frame, frame_bytes, Frames, Chunk, pad, chunk_bytes, Others, Extension, plain, extensible, front_tag, Extends, Recording, align_of, opening, format_chunk, data_head, header, Proper, Tells, emits, outs, after, samples}
 use Rattle.wav.specs.declared.sample.Encoding.{Encoding}
 use Rattle.wav.specs.declared.sample.Encoding.TheVariants as coding
-use Rattle.wav.specs.declared.words.Known.TheVariants as known
 use Rattle.wav.specs.declared.wav.Wav as state
 use Rattle.wav.specs.declared.wav.Step.{Step}
 use Rattle.wav.specs.declared.wav.Place.{Place}
 use Rattle.wav.specs.declared.wav.Place.TheVariants as at
 use Rattle.wav.specs.declared.wav.Out.{Out}
 use Rattle.wav.specs.declared.wav.Out.TheVariants as out
-use Rattle.wav.specs.declared.wav.End.TheVariants as end
 
 -- from w these bytes tell these things, and lead to v
 record Reads (w : state.Wav) (bs : List ℕ) (os : List Out) (v : state.Wav) : Type 0 where
@@ -233,7 +231,7 @@ read rest f rate shape = words fresh_wav rest f rate shape
 abbrev playing : state.Wav → Encoding → ℕ → ℕ → state.Wav
 playing w k channels frames = counting (framed w (channels * bytes_in k) k) frames
 
-known_is : (k : Encoding) → encoding_of (tag_of k) (8 * bytes_in k) ≡ known.As k
+known_is : (k : Encoding) → encoding_of (tag_of k) (8 * bytes_in k) ≡ Some k
 unfolding encoding_of pcm_known float_known only8
 known_is coding.MuLaw = refl
 known_is coding.ALaw = refl
@@ -513,11 +511,11 @@ heads r size p d =
     (next (format r.encoding r.channels r.rate r.flow p.some p.few p.rate r.extension p.extension)
     (next (chunks (playing (headed r) r.encoding r.channels 0) r.between p.between) d)))
 
-over-whole : (w : state.Wav) → finish_of (put w at.Over 1 0) ≡ end.Whole
+over-whole : (w : state.Wav) → finish_of (put w at.Over 1 0) ≡ Ok tt
 unfolding finish_of
 over-whole w = refl
 
-frame-whole : (w : state.Wav) (k : Encoding) (channels : ℕ) → finish_of (put (playing w k channels 0) at.Sample (bytes_in k) 0) ≡ end.Whole
+frame-whole : (w : state.Wav) (k : Encoding) (channels : ℕ) → finish_of (put (playing w k channels 0) at.Sample (bytes_in k) 0) ≡ Ok tt
 unfolding finish_of finish_frame
 frame-whole w k channels = rw (eq-eqb (bytes_in k) (bytes_in k) refl) refl
 

@@ -1,5 +1,5 @@
 -- What a recording is, from its writer's side, and what a reader tells of it. Assumes nothing.
-use Rattle.std.specs.Prelude.{ℕ, ◌+◌, ◌*◌, ◌/◌, ◌%◌, ◌≤◌, ◌<◌, ◌≡◌, false, List, [], ◌∷◌, ◌++◌, eqb, length}
+use Rattle.std.specs.Prelude.{ℕ, ◌+◌, ◌*◌, ◌/◌, ◌%◌, ◌≤◌, ◌<◌, ◌≡◌, false, List, [], ◌∷◌, ◌++◌, eqb, length, Ok}
 use Rattle.std.specs.Prelude.{if◌then◌else◌}
 use Rattle.refusal.specs.Refusals.{rate_refused}
 use Rattle.wav.specs.Sample.{sample_of, bytes_in}
@@ -9,7 +9,6 @@ use Rattle.wav.specs.declared.sample.Encoding.TheVariants as coding
 use Rattle.wav.specs.declared.wav.Wav.{Wav}
 use Rattle.wav.specs.declared.wav.Out.{Out}
 use Rattle.wav.specs.declared.wav.Out.TheVariants as out
-use Rattle.wav.specs.declared.wav.End.TheVariants as end
 
 -- ---- numbers, low byte first
 unfoldable pub two : ℕ → List ℕ
@@ -164,4 +163,4 @@ samples k (f ∷ fs) = out.Sample (sample_of k f.first) ∷ samples k fs
 -- all that a reader tells of these bytes, up to the end of the file, is this, and the recording is whole
 pub record Tells (w : Wav) (bs : List ℕ) (os : List Out) : Type 0 where
   pub emits : outs w bs ≡ os
-  pub whole : finish_of (after w bs) ≡ end.Whole
+  pub whole : finish_of (after w bs) ≡ Ok tt

@@ -1,15 +1,13 @@
 -- How a WAV recording is read, byte by byte. It is "RIFF", a length, "WAVE", and then chunks: a name of four letters, a size, and so many
 -- bytes, with one more behind an odd number. The chunk "fmt " gives the encoding, the chunk "data" the frames, each one sample for each
 -- channel. Numbers have their low byte first; a name is read as a number of four bytes too. Assumes nothing.
-use Rattle.std.specs.Prelude.{ℕ, ◌+◌, ◌-◌, ◌*◌, ◌/◌, ◌%◌, Bool, true, false, ltb, eqb}
+use Rattle.std.specs.Prelude.{ℕ, ◌+◌, ◌-◌, ◌*◌, ◌/◌, ◌%◌, Bool, true, false, ltb, eqb, Result, Ok, Err, Option, Some, None}
 use Rattle.std.specs.Prelude.{if◌then◌else◌}
 use Rattle.refusal.specs.Refusals.{rate_refused}
 use Rattle.wav.specs.Sample.{bytes_in, sample_in}
 use Rattle.wav.specs.Words.{shifted, last_four, encoding_of, is_endless}
 use Rattle.wav.specs.declared.sample.Encoding.{Encoding}
 use Rattle.wav.specs.declared.sample.Encoding.TheVariants as coding
-use Rattle.wav.specs.declared.words.Known.{Known}
-use Rattle.wav.specs.declared.words.Known.TheVariants as known
 use Rattle.wav.specs.declared.wav.Wav.{Wav}
 use Rattle.wav.specs.declared.wav.Step.{Step}
 use Rattle.wav.specs.declared.wav.Fault.{Fault}
@@ -18,8 +16,6 @@ use Rattle.wav.specs.declared.wav.Place.{Place}
 use Rattle.wav.specs.declared.wav.Place.TheVariants as at
 use Rattle.wav.specs.declared.wav.Out.{Out}
 use Rattle.wav.specs.declared.wav.Out.TheVariants as out
-use Rattle.wav.specs.declared.wav.End.{End}
-use Rattle.wav.specs.declared.wav.End.TheVariants as end
 
 -- ---- the names, as numbers
 -- "RIFF"
@@ -175,9 +171,9 @@ settle_as w k =
     else if eqb align (channels * bytes_in k) then skip (framed w align k) w.rest
     else bad w fault.Align
 
-abbrev pub settle_known : Known → Wav → Step
-settle_known known.Not w = bad w fault.Encoding
-settle_known (known.As k) w = settle_as w k
+abbrev pub settle_known : Option Encoding → Wav → Step
+settle_known None w = bad w fault.Encoding
+settle_known (Some k) w = settle_as w k
 
 unfoldable pub settle : Wav → ℕ → Step
 settle w tag = settle_known (encoding_of tag (w.shape / 65536)) w
@@ -264,30 +260,30 @@ add_byte w b =
 
 -- ---- the end of the file
 -- between frames: too early where the header promised more
-unfoldable pub finish_frame : Wav → End
+unfoldable pub finish_frame : Wav → Result Unit Fault
 finish_frame w =
-    if eqb w.left w.width then (if eqb w.frames 0 then end.Whole else end.Bad fault.DataCut)
-    else end.Bad fault.FrameCut
+    if eqb w.left w.width then (if eqb w.frames 0 then (Ok tt) else Err fault.DataCut)
+    else Err fault.FrameCut
 
-abbrev pub finish_at : Place → Wav → End
+abbrev pub finish_at : Place → Wav → Result Unit Fault
 finish_at at.Sample w = finish_frame w
-finish_at at.Rest w = end.Bad fault.FrameCut
-finish_at at.Over w = end.Whole
-finish_at (at.Bad f) w = end.Bad f
-finish_at at.Riff w = end.Bad fault.HeaderCut
-finish_at at.Length w = end.Bad fault.HeaderCut
-finish_at at.Wave w = end.Bad fault.HeaderCut
-finish_at at.Name w = end.Bad fault.HeaderCut
-finish_at at.FormatSize w = end.Bad fault.HeaderCut
-finish_at at.DataSize w = end.Bad fault.HeaderCut
-finish_at at.OtherSize w = end.Bad fault.HeaderCut
-finish_at at.Format w = end.Bad fault.HeaderCut
-finish_at at.Rate w = end.Bad fault.HeaderCut
-finish_at at.Flow w = end.Bad fault.HeaderCut
-finish_at at.Align w = end.Bad fault.HeaderCut
-finish_at at.Extra w = end.Bad fault.HeaderCut
-finish_at at.Sub w = end.Bad fault.HeaderCut
-finish_at at.Skip w = end.Bad fault.HeaderCut
+finish_at at.Rest w = Err fault.FrameCut
+finish_at at.Over w = Ok tt
+finish_at (at.Bad f) w = Err f
+finish_at at.Riff w = Err fault.HeaderCut
+finish_at at.Length w = Err fault.HeaderCut
+finish_at at.Wave w = Err fault.HeaderCut
+finish_at at.Name w = Err fault.HeaderCut
+finish_at at.FormatSize w = Err fault.HeaderCut
+finish_at at.DataSize w = Err fault.HeaderCut
+finish_at at.OtherSize w = Err fault.HeaderCut
+finish_at at.Format w = Err fault.HeaderCut
+finish_at at.Rate w = Err fault.HeaderCut
+finish_at at.Flow w = Err fault.HeaderCut
+finish_at at.Align w = Err fault.HeaderCut
+finish_at at.Extra w = Err fault.HeaderCut
+finish_at at.Sub w = Err fault.HeaderCut
+finish_at at.Skip w = Err fault.HeaderCut
 
-unfoldable pub finish_of : Wav → End
+unfoldable pub finish_of : Wav → Result Unit Fault
 finish_of w = finish_at w.place w

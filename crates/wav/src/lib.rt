@@ -9,4 +9,4 @@ mod sample;
 mod wav;
 mod words;
 
-pub use wav::{End, Fault, Out, Step, Wav};
+pub use wav::{Fault, Out, Step, Wav};

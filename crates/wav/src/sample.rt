@@ -131,13 +131,10 @@ pub fn bytes_in(encoding: Encoding) -> u32
     ensures { result ≡ bytes_in encoding }
 {
     match encoding {
-        Encoding::MuLaw => 1,
-        Encoding::ALaw => 1,
-        Encoding::Pcm8 => 1,
+        Encoding::MuLaw | Encoding::ALaw | Encoding::Pcm8 => 1,
         Encoding::Pcm16 => 2,
         Encoding::Pcm24 => 3,
-        Encoding::Pcm32 => 4,
-        Encoding::Float32 => 4,
+        Encoding::Pcm32 | Encoding::Float32 => 4,
         Encoding::Float64 => 8,
     }
 }

@@ -5,7 +5,7 @@ ghost use Rattle.wav.specs.Wav.{fresh_wav, raw_wav, raw16_wav, moved, framed, go
 ghost use Rattle.wav.specs.Wav.{settle, settle_as, data_size, start, sampled, over_others, next_frame, frame_over, done, add_byte, finish_frame, finish_of};
 
 use crate::sample::{Encoding, bytes_in, sample};
-use crate::words::{Known, encoding_of, endless, last_four, shifted_in};
+use crate::words::{encoding_of, endless, last_four, shifted_in};
 use refusal::rate_ok;
 
 // Why a recording is not read, or not to its end.
@@ -101,13 +101,6 @@ pub struct Step {
     pub out: Out,
 }
 
-// What the end of the file means.
-#[derive(Clone, Copy)]
-pub enum End {
-    Whole,
-    Bad(Fault),
-}
-
 // The names, as words.
 const RIFF: u32 = 0x4646_4952;
 
@@ -143,16 +136,10 @@ impl Wav {
     {
         Wav {
             place: Place::Sample,
-            left: 4,
-            word: 0,
-            rest: 0,
-            format: 0,
-            rate: 0,
-            shape: 0,
             align: 4,
             encoding: Encoding::Float32,
             width: 4,
-            frames: 0,
+            ..Wav::new()
         }
     }
 
@@ -163,29 +150,24 @@ impl Wav {
         Wav {
             place: Place::Sample,
             left: 2,
-            word: 0,
-            rest: 0,
-            format: 0,
-            rate: 0,
-            shape: 0,
             align: 2,
-            encoding: Encoding::Pcm16,
-            width: 2,
-            frames: 0,
+            ..Wav::new()
         }
     }
 
     // One byte.
-    pub fn add_byte(mut self, b: u8) -> Step
+    #[tactic(auto, unfolding(crate::specs::Wav::add_byte))]
+    pub fn add_byte(self, b: u8) -> Step
         ensures { result ≡ add_byte self b }
     {
         let word = shifted_in(self.word, b);
-        let left = self.left;
-        if 1 < left {
-            self.left = left - 1;
-            self.word = word;
+        if 1 < self.left {
             return Step {
-                state: self,
+                state: Wav {
+                    left: self.left - 1,
+                    word,
+                    ..self
+                },
                 out: Out::Going,
             };
         }
@@ -193,60 +175,50 @@ impl Wav {
     }
 
     // The end of the file.
-    pub fn finish(self) -> End
+    #[tactic(auto, unfolding(crate::specs::Wav::finish_of))]
+    pub fn finish(self) -> Result<(), Fault>
         ensures { result ≡ finish_of self }
     {
-        let place = self.place;
-        match place {
+        match self.place {
             Place::Sample => self.finish_frame(),
-            Place::Rest => End::Bad(Fault::FrameCut),
-            Place::Over => End::Whole,
-            Place::Bad(fault) => End::Bad(fault),
-            _ => End::Bad(Fault::HeaderCut),
+            Place::Rest => Err(Fault::FrameCut),
+            Place::Over => Ok(()),
+            Place::Bad(fault) => Err(fault),
+            _ => Err(Fault::HeaderCut),
         }
     }
 
     // The end of the file where a frame begins, or in its first sample.
-    fn finish_frame(self) -> End
+    #[tactic(auto, unfolding(crate::specs::Wav::finish_frame))]
+    fn finish_frame(self) -> Result<(), Fault>
         ensures { result ≡ finish_frame self }
     {
-        let left = self.left;
-        let width = self.width as u64;
-        if left != width {
-            return End::Bad(Fault::FrameCut);
+        if self.left != self.width as u64 {
+            return Err(Fault::FrameCut);
         }
         if self.frames != 0 {
-            return End::Bad(Fault::DataCut);
+            return Err(Fault::DataCut);
         }
-        End::Whole
+        Ok(())
     }
 
     // On to a place of so many bytes.
     fn moved(self, place: Place, left: u64) -> Wav
         ensures { result ≡ moved self place left }
     {
-        let encoding = self.encoding;
         Wav {
             place,
             left,
             word: 0,
-            rest: self.rest,
-            format: self.format,
-            rate: self.rate,
-            shape: self.shape,
-            align: self.align,
-            encoding,
-            width: self.width,
-            frames: self.frames,
+            ..self
         }
     }
 
     fn going(self, place: Place, left: u64) -> Step
         ensures { result ≡ going self place left }
     {
-        let state = self.moved(place, left);
         Step {
-            state,
+            state: self.moved(place, left),
             out: Out::Going,
         }
     }
@@ -255,14 +227,14 @@ impl Wav {
     fn bad(self, fault: Fault) -> Step
         ensures { result ≡ bad self fault }
     {
-        let state = self.moved(Place::Bad(fault), 1);
         Step {
-            state,
+            state: self.moved(Place::Bad(fault), 1),
             out: Out::Bad(fault),
         }
     }
 
     // A word that has to be as it is in every recording.
+    #[tactic(auto, unfolding(crate::specs::Wav::fixed))]
     fn fixed(self, as_wanted: bool, next: Place, fault: Fault) -> Step
         ensures { result ≡ fixed self as_wanted next fault }
     {
@@ -273,6 +245,7 @@ impl Wav {
     }
 
     // Over so many bytes to the next chunk.
+    #[tactic(auto, unfolding(crate::specs::Wav::skip))]
     fn skip(self, n: u64) -> Step
         ensures { result ≡ skip self n }
     {
@@ -282,19 +255,19 @@ impl Wav {
         self.going(Place::Skip, n)
     }
 
+    #[tactic(auto, unfolding(crate::specs::Wav::named))]
     fn named(self, name: u32) -> Step
         ensures { result ≡ named self name }
     {
-        if name == FMT {
-            return self.going(Place::FormatSize, 4);
+        match name {
+            FMT => self.going(Place::FormatSize, 4),
+            DATA => self.going(Place::DataSize, 4),
+            _ => self.going(Place::OtherSize, 4),
         }
-        if name == DATA {
-            return self.going(Place::DataSize, 4);
-        }
-        self.going(Place::OtherSize, 4)
     }
 
     // A format chunk has four words at least. A chunk of odd size has a byte behind it.
+    #[tactic(auto, unfolding(crate::specs::Wav::format_size))]
     fn format_size(mut self, size: u32) -> Step
         ensures { result ≡ format_size self size }
     {
@@ -327,6 +300,7 @@ impl Wav {
     }
 
     // The last word of a plain format; an extensible one (FFFE) has its encoding further on.
+    #[tactic(auto, unfolding(crate::specs::Wav::shape_word))]
     fn shape_word(mut self, word: u32) -> Step
         ensures { result ≡ shape_word self word }
     {
@@ -344,16 +318,17 @@ impl Wav {
     }
 
     // The format is known: is it one that is read?
+    #[tactic(auto, unfolding(crate::specs::Wav::settle))]
     fn settle(self, tag: u32) -> Step
         ensures { result ≡ settle self tag }
     {
-        let known = encoding_of(tag, self.shape / 65536);
-        match known {
-            Known::As(encoding) => self.settle_as(encoding),
-            Known::Not => self.bad(Fault::Encoding),
+        match encoding_of(tag, self.shape / 65536) {
+            Some(encoding) => self.settle_as(encoding),
+            None => self.bad(Fault::Encoding),
         }
     }
 
+    #[tactic(auto, unfolding(crate::specs::Wav::settle_as))]
     fn settle_as(self, encoding: Encoding) -> Step
         ensures { result ≡ settle_as self encoding }
     {
@@ -369,8 +344,7 @@ impl Wav {
         if align != channels * width {
             return self.bad(Fault::Align);
         }
-        let state = self.framed(align, encoding, width);
-        state.skip(self.rest)
+        self.framed(align, encoding, width).skip(self.rest)
     }
 
     // With frames of so many bytes, and samples of this encoding, of so many.
@@ -378,23 +352,16 @@ impl Wav {
         requires { width ≡ bytes_in encoding }
         ensures { result ≡ framed self align encoding }
     {
-        let place = self.place;
         Wav {
-            place,
-            left: self.left,
-            word: self.word,
-            rest: self.rest,
-            format: self.format,
-            rate: self.rate,
-            shape: self.shape,
             align,
             encoding,
             width,
-            frames: self.frames,
+            ..self
         }
     }
 
     // The data begin.
+    #[tactic(auto, unfolding(crate::specs::Wav::data_size))]
     fn data_size(self, size: u32) -> Step
         ensures { result ≡ data_size self size }
     {
@@ -415,38 +382,35 @@ impl Wav {
         ensures { result ≡ start self frames }
     {
         self.frames = frames;
-        let state = self.moved(Place::Sample, self.width as u64);
         Step {
-            state,
+            state: self.moved(Place::Sample, self.width as u64),
             out: Out::Start(self.rate),
         }
     }
 
     // The first channel's sample is in.
+    #[tactic(auto, unfolding(crate::specs::Wav::sampled))]
     fn sampled(self, word: u64) -> Step
         ensures { result ≡ sampled self word }
     {
-        let encoding = self.encoding;
-        let x = sample(encoding, word);
-        let state = self.over_others();
         Step {
-            state,
-            out: Out::Sample(x),
+            state: self.over_others(),
+            out: Out::Sample(sample(self.encoding, word)),
         }
     }
 
     // Over the other channels.
+    #[tactic(auto, unfolding(crate::specs::Wav::over_others))]
     fn over_others(self) -> Wav
         ensures { result ≡ over_others self }
     {
-        let width = self.width;
-        let align = self.align;
-        if width < align {
-            return self.moved(Place::Rest, (align - width) as u64);
+        if self.width < self.align {
+            return self.moved(Place::Rest, (self.align - self.width) as u64);
         }
         self.next_frame()
     }
 
+    #[tactic(auto, unfolding(crate::specs::Wav::next_frame))]
     fn next_frame(mut self) -> Wav
         ensures { result ≡ next_frame self }
     {
@@ -463,11 +427,11 @@ impl Wav {
     }
 
     // The place's last byte is in: the last four are a number, and the last eight.
+    #[tactic(auto, unfolding(crate::specs::Wav::done))]
     fn done(self, n: u32, word: u64) -> Step
         ensures { result ≡ done self.place self n word }
     {
-        let place = self.place;
-        match place {
+        match self.place {
             Place::Riff => self.fixed(n == RIFF, Place::Length, Fault::Riff),
             Place::Length => self.going(Place::Wave, 4),
             Place::Wave => self.fixed(n == WAVE, Place::Name, Fault::Wave),
@@ -492,9 +456,8 @@ impl Wav {
     fn frame_over(self) -> Step
         ensures { result ≡ frame_over self }
     {
-        let state = self.next_frame();
         Step {
-            state,
+            state: self.next_frame(),
             out: Out::Going,
         }
     }

@@ -4,13 +4,6 @@ ghost use Rattle.wav.specs.Words.{shifted, last_four, pcm_known, float_known, on
 
 use crate::sample::Encoding;
 
-// Whether samples of an encoding are read.
-#[derive(Clone, Copy)]
-pub enum Known {
-    As(Encoding),
-    Not,
-}
-
 // The last eight bytes with one byte more on top.
 pub fn shifted_in(word: u64, b: u8) -> u64
     ensures { result ≡ shifted word b }
@@ -25,70 +18,55 @@ pub fn last_four(word: u64) -> u32
     (word / 0x1_0000_0000) as u32
 }
 
-fn pcm_known(bits: u32) -> Known
+#[tactic(auto, unfolding(crate::specs::Words::pcm_known))]
+fn pcm_known(bits: u32) -> Option<Encoding>
     ensures { result ≡ pcm_known bits }
 {
-    if bits == 8 {
-        return Known::As(Encoding::Pcm8);
+    match bits {
+        8 => Some(Encoding::Pcm8),
+        16 => Some(Encoding::Pcm16),
+        24 => Some(Encoding::Pcm24),
+        32 => Some(Encoding::Pcm32),
+        _ => None,
     }
-    if bits == 16 {
-        return Known::As(Encoding::Pcm16);
-    }
-    if bits == 24 {
-        return Known::As(Encoding::Pcm24);
-    }
-    if bits == 32 {
-        return Known::As(Encoding::Pcm32);
-    }
-    Known::Not
 }
 
-fn float_known(bits: u32) -> Known
+#[tactic(auto, unfolding(crate::specs::Words::float_known))]
+fn float_known(bits: u32) -> Option<Encoding>
     ensures { result ≡ float_known bits }
 {
-    if bits == 32 {
-        return Known::As(Encoding::Float32);
+    match bits {
+        32 => Some(Encoding::Float32),
+        64 => Some(Encoding::Float64),
+        _ => None,
     }
-    if bits == 64 {
-        return Known::As(Encoding::Float64);
-    }
-    Known::Not
 }
 
-fn only_8(bits: u32, known: Known) -> Known
+#[tactic(auto, unfolding(crate::specs::Words::only8))]
+fn only_8(bits: u32, known: Option<Encoding>) -> Option<Encoding>
     ensures { result ≡ only8 bits known }
 {
-    if bits == 8 {
-        return known;
-    }
-    Known::Not
+    if bits == 8 { known } else { None }
 }
 
 // The encoding of a format's number: 1 is PCM, 3 IEEE float, 6 A-law, 7 µ-law.
-pub fn encoding_of(tag: u32, bits: u32) -> Known
+#[tactic(auto, unfolding(crate::specs::Words::encoding_of))]
+pub fn encoding_of(tag: u32, bits: u32) -> Option<Encoding>
     ensures { result ≡ encoding_of tag bits }
 {
-    if tag == 1 {
-        return pcm_known(bits);
+    match tag {
+        1 => pcm_known(bits),
+        3 => float_known(bits),
+        6 => only_8(bits, Some(Encoding::ALaw)),
+        7 => only_8(bits, Some(Encoding::MuLaw)),
+        _ => None,
     }
-    if tag == 3 {
-        return float_known(bits);
-    }
-    if tag == 6 {
-        return only_8(bits, Known::As(Encoding::ALaw));
-    }
-    if tag == 7 {
-        return only_8(bits, Known::As(Encoding::MuLaw));
-    }
-    Known::Not
 }
 
 // Whether the data run to the end of the file: recorders that can't know the size say 0, or something near 2 or 4 GB.
+#[tactic(auto, unfolding(crate::specs::Words::is_endless))]
 pub fn endless(size: u32) -> bool
     ensures { result ≡ is_endless size }
 {
-    if size == 0 {
-        return true;
-    }
-    0x7FFF_F000 <= size
+    size == 0 || 0x7FFF_F000 <= size
 }

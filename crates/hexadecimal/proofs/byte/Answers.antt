@@ -10,17 +10,15 @@ use Rattle.hexadecimal.proofs.byte.Goals as goal
 
 pub returns-then-n-i : goal.returns-then-n-i
 returns-then-n-i c =
-    let b = c in
-    (sym (unhex-past b.args.s.now b.args.i c.if-n-i.true), omega arith, λ h. omega arith)
+    (sym (unhex-past c.args.s.now c.args.i c.if-n-i.true), omega arith, λ h. omega arith)
 
 pub returns : goal.returns
 returns c =
-    let b = c in
-    let s = b.args.s.now in
+    let s = c.args.s.now in
     let p = c.digit-a.ensures in
     let q = c.digit-b.ensures in
-    let e = ap₂ (λ (x y : ℕ). 16 * x + y) p q ∙ sym (unhex-at s b.args.i (omega arith)) in (
+    let e = ap₂ (λ (x y : ℕ). 16 * x + y) p q ∙ sym (unhex-at s c.args.i (omega arith)) in (
       e,
-      omega (arith, p, q, hex-most (get_or s (2 * b.args.i) 0), hex-most (get_or s (2 * b.args.i + 1) 0)),
-      λ h. omega (arith, e, byte_at (unhex s) b.args.i (unhex-bytes s h)),
+      omega (arith, p, q, hex-most (get_or s (2 * c.args.i) 0), hex-most (get_or s (2 * c.args.i + 1) 0)),
+      λ h. omega (arith, e, byte_at (unhex s) c.args.i (unhex-bytes s h)),
     )

@@ -1,28 +1,17 @@
 -- The sum so far and the sum from place i on are together the whole, up to multiples of 256. Assumes nothing.
-use Prim.Native.Nat.{◌-◌}
 use native.Mathlib.Omega.{arith}
 use Rattle.hexadecimal.specs.Hex.{unhex}
 use Rattle.hexadecimal.proofs.ByPlace.{total-step, total-end}
 use Rattle.hexadecimal.proofs.HexLaws.{length-unhex}
 use Rattle.hexadecimal.proofs.sum.Goals as goal
 
-pub loop-i-init : goal.loop-i-init
-loop-i-init c =
-    (omega arith, omega arith, omega arith)
-
-pub overflow_add-t : goal.overflow_add-t
-overflow_add-t c =
-    omega (arith, c.byte.ensures.1)
-
 pub loop-i-preserved : goal.loop-i-preserved
 loop-i-preserved c =
-    let b = c in
-    let s = b.args.s.now in
-    let i = c.loop-i.i in
+    let s = c.args.s.now in
     let l = length-unhex s in
     let e = c.byte.ensures.0 in
-    let t = total-step (unhex s) i (omega arith) in
-    (omega arith, omega arith, omega arith)
+    let t = total-step (unhex s) c.loop-i.i (omega arith) in
+    (omega arith, omega arith)
 
 pub returns : goal.returns
 returns c =

@@ -1,13 +1,10 @@
 -- From place i on the lengths make of the sum what the whole list makes of nothing; and the sum has room. Assumes nothing.
-use Prim.Native.Nat.{◌-◌, ◌*◌, ◌<◌, ◌≤◌}
+use Prim.Native.Nat.{◌*◌, ◌<◌, ◌≤◌}
 use mathlib.Core.Path.{◌≡◌}
-use lib.ListN.{length, drop}
+use lib.ListN.{drop}
 use Rattle.numeric.specs.Fold.{fold}
 use Rattle.bell103.specs.Durations.{with_bits, carried}
 use Rattle.bell103.proofs.durations.add_all.Given as goal
 
-abbrev pub invariant-loop-i : goal.invariant-loop-i
-invariant-loop-i l = (l.i ≤ length l.lengths) × (l.sum.quotient ≤ l.i * 335544321) × (l.sum.remainder < 300) × (fold (with_bits l.rate) l.sum (drop l.i l.lengths) ≡ carried l.rate l.lengths)
-
-abbrev pub decreases-loop-i : goal.decreases-loop-i
-decreases-loop-i l = length l.lengths - l.i
+abbrev pub invariant-loop-n : goal.invariant-loop-n
+invariant-loop-n l = (l.sum.quotient ≤ l.n-index * 335544321) × (l.sum.remainder < 300) × (fold (with_bits l.rate) l.sum (drop l.n-index l.lengths) ≡ carried l.rate l.lengths)

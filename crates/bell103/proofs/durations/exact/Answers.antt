@@ -4,26 +4,20 @@ use native.Mathlib.Omega.{arith}
 use borrow.Author.Tests.{lt-ltb}
 use Rattle.bell103.specs.Durations.{exact_reply}
 use Rattle.refusal.specs.declared.Refusal.TheVariants.{Rate, TooManyBits}
-use Rattle.bell103.proofs.Summing.{rate-high, product_small, measures-none, measures}
+use Rattle.bell103.proofs.Summing.{rate-high, product_small, measures_none, measures}
 use Rattle.bell103.proofs.durations.exact.Goals as goal
-
-pub returns-then-not-rate_ok : goal.returns-then-not-rate_ok
-unfolding exact_reply
-returns-then-not-rate_ok c = measures-none _ _ Rate (rw (sym c.rate_ok.ensures ∙ c.if-not-rate_ok.true-raw) refl)
 
 pub returns-then-n-gt-LONGEST : goal.returns-then-n-gt-LONGEST
 unfolding exact_reply
-returns-then-n-gt-LONGEST c = measures-none _ _ TooManyBits (rw (sym c.rate_ok.ensures ∙ c.if-not-rate_ok.false-raw, lt-ltb _ _ c.if-n-gt-LONGEST.true) refl)
+returns-then-n-gt-LONGEST c = measures_none _ _ TooManyBits (rw (c.in_ok-check_rate.ensures.admitted, lt-ltb _ _ c.if-n-gt-LONGEST.true) refl)
 
 pub exact_of-exact-requires : goal.exact_of-exact-requires
-exact_of-exact-requires c = (rate-high _ (sym c.rate_ok.ensures ∙ c.if-not-rate_ok.false-raw), c.if-n-gt-LONGEST.false)
+exact_of-exact-requires c = (rate-high _ c.in_ok-check_rate.ensures.admitted, c.if-n-gt-LONGEST.false)
 
 pub overflow_mul-n : goal.overflow_mul-n
 overflow_mul-n c =
-    let d = c in
-    omega (arith, product_small _ _ (rate-high _ (sym d.rate_ok.ensures ∙ d.if-not-rate_ok.false-raw)) c.if-n-gt-LONGEST.false)
+    omega (arith, product_small _ _ (rate-high _ c.in_ok-check_rate.ensures.admitted) c.if-n-gt-LONGEST.false)
 
 pub returns : goal.returns
 returns c =
-    let d = c in
-    measures _ _ _ _ c.exact_of-exact.ensures c.nearest.ensures (sym d.rate_ok.ensures ∙ d.if-not-rate_ok.false-raw) c.if-n-gt-LONGEST.false
+    measures _ _ _ _ c.exact_of-exact.ensures c.nearest.ensures c.in_ok-check_rate.ensures.admitted c.if-n-gt-LONGEST.false

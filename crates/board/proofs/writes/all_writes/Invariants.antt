@@ -1,13 +1,8 @@
 -- `writes::all_writes` meets its contract. The invariant: what the rest does from here is what all of them do. Assumes nothing.
 use Rattle.board.proofs.Running.{Going}
-use mathlib.Core.Path.{◌≡◌}
-use Prim.Native.Nat.{◌-◌, ◌≤◌}
-use lib.ListN.{length, take}
+use lib.ListN.{take}
 use Rattle.board.specs.BoardRep.{plain_of}
 use Rattle.board.proofs.writes.all_writes.Given as goal
 
 abbrev pub invariant-loop-i : goal.invariant-loop-i
-invariant-loop-i l = (l.i ≤ l.writes) × (length l.answers ≡ length l.initial.answers) × Going (plain_of l.initial.place.board) l.samples (take l.writes l.lengths) l.initial.answers l.i l.place l.answers
-
-abbrev pub decreases-loop-i : goal.decreases-loop-i
-decreases-loop-i l = l.writes - l.i
+invariant-loop-i l = Going (plain_of l.initial.place.board) l.samples (take l.writes l.lengths) l.initial.answers l.i l.place l.answers

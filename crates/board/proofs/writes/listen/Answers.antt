@@ -2,12 +2,12 @@
 use Rattle.board.proofs.Listening.{listens-refused, listens-run}
 use Rattle.board.proofs.writes.listen.Goals as goal
 
-pub returns-in-Refused : goal.returns-in-Refused
-returns-in-Refused c =
+pub returns-in-Err : goal.returns-in-Err
+returns-in-Err c =
     let m = c.new-made in
-    listens-refused _ _ _ _ _ _ m.result m.ensures _ c.in-Refused.is
+    listens-refused _ _ _ _ _ _ m.result m.ensures _ c.in-Err.is
 
-pub returns-in-Accepted : goal.returns-in-Accepted
-returns-in-Accepted c =
+pub returns-in-Ok : goal.returns-in-Ok
+returns-in-Ok c =
     let m = c.new-made in
-    listens-run _ _ _ _ _ _ m.result m.ensures c.in-Accepted.is _ _ c.all_writes.ensures
+    listens-run _ _ _ _ _ _ m.result m.ensures c.in-Ok.is _ _ c.all_writes.ensures

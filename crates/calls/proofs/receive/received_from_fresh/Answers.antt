@@ -3,12 +3,12 @@ use Rattle.calls.proofs.ReceiveLaws.{rate-accepted, rate-refused}
 use Rattle.calls.specs.Receive.{receive_run}
 use Rattle.calls.proofs.receive.received_from_fresh.Goals as goal
 
-pub returns-in-Refused : goal.returns-in-Refused
+pub returns-in-Err : goal.returns-in-Err
 unfolding receive_run
-returns-in-Refused c = rw (rate-refused _ _ _ _ (rw c.in-Refused.is at c.new-made.ensures.0))
+returns-in-Err c = rw (rate-refused _ _ _ _ (rw c.in-Err.is at c.new-made.ensures))
 
-pub returns-in-Accepted : goal.returns-in-Accepted
+pub returns-in-Ok : goal.returns-in-Ok
 unfolding receive_run
-returns-in-Accepted c =
-    let a = rate-accepted _ _ _ (rw c.in-Accepted.is at c.new-made.ensures.0) in
+returns-in-Ok c =
+    let a = rate-accepted _ _ _ (rw c.in-Ok.is at c.new-made.ensures) in
     rw (a.0, ← c.role_of.ensures, ← a.1) c.all_calls.ensures

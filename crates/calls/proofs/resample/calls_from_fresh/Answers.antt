@@ -3,12 +3,12 @@ use Rattle.calls.proofs.Calls.{rates-accepted, rates-refused}
 use Rattle.calls.specs.Resample.{resample_run}
 use Rattle.calls.proofs.resample.calls_from_fresh.Goals as goal
 
-pub returns-in-Refused : goal.returns-in-Refused
+pub returns-in-Err : goal.returns-in-Err
 unfolding resample_run
-returns-in-Refused c = rw (rates-refused _ _ _ _ (rw c.in-Refused.is at c.new-made.ensures.state_value))
+returns-in-Err c = rw (rates-refused _ _ _ _ (rw c.in-Err.is at c.new-made.ensures.state_value))
 
-pub returns-in-Accepted : goal.returns-in-Accepted
+pub returns-in-Ok : goal.returns-in-Ok
 unfolding resample_run
-returns-in-Accepted c =
-    let a = rates-accepted _ _ _ (rw c.in-Accepted.is at c.new-made.ensures.state_value) in
+returns-in-Ok c =
+    let a = rates-accepted _ _ _ (rw c.in-Ok.is at c.new-made.ensures.state_value) in
     rw (a.0, ← a.1) c.all_calls.ensures

@@ -3,10 +3,5 @@ use borrow.Author.Tests.{ne_eqb}
 use Rattle.console.proofs.Lines.{char-on}
 use Rattle.console.proofs.numbers.after_char.Goals as goal
 
-pub returns-then-c-eq10 : goal.returns-then-c-eq10
-returns-then-c-eq10 c =
-    let e = c in
-    rw e.if-c-eq10.true e.end_line.ensures
-
 pub returns : goal.returns
 returns c = char-on _ _ _ _ (ne_eqb _ _ c.if-c-eq10.false) c.grow.ensures

@@ -1,9 +1,6 @@
--- What each turn reads stands behind what was read before. The measure is the number of turns that are left. Assumes nothing.
+-- What each turn reads stands behind what was read before. Assumes nothing.
 use Rattle.console.specs.Numbers.{StepsSome}
 use Rattle.console.proofs.numbers.read_to_end.Given as goal
 
-abbrev pub invariant-loop-turns : goal.invariant-loop-turns
-invariant-loop-turns g l = StepsSome l.initial.r.numbers l.initial.out l.r.numbers l.out
-
-abbrev pub decreases-loop-turns : goal.decreases-loop-turns
-decreases-loop-turns g l = l.turns
+abbrev pub invariant-loop : goal.invariant-loop
+invariant-loop g l = StepsSome l.initial.r l.initial.out l.r l.out

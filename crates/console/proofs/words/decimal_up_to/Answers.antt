@@ -2,26 +2,21 @@
 use Rattle.console.proofs.Digits.{digit-on, digit-none, digits-end}
 use Rattle.console.specs.Words.{up_to_most}
 use native.Mathlib.Omega.{arith}
-use mathlib.Core.Path.{refl, sym, ◌∙◌}
+use mathlib.Core.Path.{sym, ◌∙◌}
 use Rattle.console.proofs.words.decimal_up_to.Goals as goal
 
-pub loop-i-init : goal.loop-i-init
-loop-i-init c = (omega arith, omega arith, refl)
+pub loop-c-preserved : goal.loop-c-preserved
+loop-c-preserved c =
+    let d = c.in_ok-value.ensures in
+    (d.within, sym (digit-on _ _ _ _ c.loop-c-test.true d.value d.within) ∙ c.loop-c.invariant.1)
 
-pub returns-then-limit-value : goal.returns-then-limit-value
+pub returns-in_err-value-clause-value : goal.returns-in_err-value-clause-value
 unfolding up_to_most
-returns-then-limit-value c =
-    let l = c in
-    sym (digit-none _ _ _ _ c.loop-i-test.true c.with_digit-value.ensures c.if-limit-value.true) ∙ l.loop-i.invariant.2
-
-pub loop-i-preserved : goal.loop-i-preserved
-loop-i-preserved c =
-    let l = c in
-    let t = c.loop-i-test.true in
-    (omega arith, omega arith, sym (digit-on _ _ _ _ t c.with_digit-value.ensures c.if-limit-value.false) ∙ l.loop-i.invariant.2)
+returns-in_err-value-clause-value c =
+    rw c.from_residual.ensures (sym (digit-none _ _ _ _ c.loop-c-test.true c.in_err-value.ensures.value (omega arith)) ∙ c.loop-c.invariant.1)
 
 pub returns : goal.returns
 unfolding up_to_most
 returns c =
-    let l = c.loop-i.invariant in
-    sym (digits-end _ _ _ _ l.0 c.loop-i-test.false) ∙ l.2
+    let l = c.loop-c.invariant in
+    record { value = sym (digits-end _ _ _ _ c.loop-c.auto.c-index-end c.loop-c-test.false) ∙ l.1; within = l.0 }

@@ -13,4 +13,4 @@ slice_bounds-hear_each-end c = sym (length-take-le most_steps c.args.samples.now
 
 pub hear_each-requires-2 : goal.hear_each-requires-2
 hear_each-requires-2 c =
-    record { sound = c.requires.0; places = c.requires.1; few = omega (arith, length-take-le most_steps c.args.samples.now (omega (arith, c.if-samples-le1026.false))) }
+    record { places = c.requires; few = omega (arith, length-take-le most_steps c.args.samples.now (omega (arith, c.if-samples-le1026.false))) }

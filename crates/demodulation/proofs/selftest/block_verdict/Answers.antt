@@ -1,6 +1,5 @@
 -- The loop's invariant: the samples that are left bring the block to where all 255 bring a fresh one. The 256th ends it, since the
 -- count is then 255. Assumes nothing.
-use borrow.Author.Rules.{rules}
 use borrow.Author.Tests.{lt-ltb, le-ltb}
 use Prim.Native.Nat.{ℕ, zero, suc, ◌<◌, ◌+◌, ◌-◌}
 use mathlib.Core.Path.{◌≡◌, sym, ap, ◌∙◌}
@@ -35,18 +34,15 @@ ends mark_hz own_mark_hz own_space_hz x =
     let e : d.count ≡ 255 = counted 255 x (fresh_block mark_hz own_mark_hz own_space_hz) (omega arith) in
     step-says d x ∙ rw (le-ltb (d.count + 1) 256 (omega arith))
 
-pub loop-init : goal.loop-init
-loop-init c = (search rules, rw c.new-d.ensures)
-
 pub loop-preserved : goal.loop-preserved
 loop-preserved c =
     let l = c.loop in
-    (search rules, l.invariant.1 ∙ one_more l.d _ (255 - l.counter) (255 - (l.counter + 1)) c.feed-j.result (omega arith) c.feed-j.ensures)
+    l.invariant ∙ one_more l.d _ (255 - l.counter) (255 - (l.counter + 1)) c.feed.result (omega arith) c.feed.ensures
 
 pub returns : goal.returns
 returns c =
     let l = c.loop in
     let a = c.args in
-    ap (λ (j : Answered). j.answer) c.feed-j-2.ensures
-    ∙ ap (λ (d : ToneDominance). (dominance_step d a.x).answer) (sym (l.invariant.1 ∙ none_left l.d a.x (255 - l.counter) (omega arith)))
+    ap (λ (j : Answered). j.answer) c.feed-2.ensures
+    ∙ ap (λ (d : ToneDominance). (dominance_step d a.x).answer) (sym (l.invariant ∙ none_left l.d a.x (255 - l.counter) (omega arith)))
     ∙ ends a.mark_hz a.own_mark_hz a.own_space_hz a.x

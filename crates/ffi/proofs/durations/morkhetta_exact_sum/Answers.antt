@@ -1,20 +1,16 @@
 -- The match told what `exact_sum` answered. Assumes nothing.
+use Rattle.refusal.specs.Refusals.{reply_in}
 use mathlib.Core.Path.{ap}
-use Rattle.bell103.specs.Durations.{summed_of}
 use Rattle.ffi.specs.Durations.{duration_numbers, sum_run}
 use Rattle.ffi.proofs.Telling.{told-given, told-refused}
 use Rattle.ffi.proofs.durations.morkhetta_exact_sum.Goals as goal
 
-pub returns-in-Given : goal.returns-in-Given
+pub returns-in-Ok : goal.returns-in-Ok
 unfolding sum_run
-returns-in-Given c =
-    let a = c in
-    let e = a in
-    told-given duration_numbers _ (summed_of e.exact_sum-answer.result) _ e.exact_sum-answer.ensures.reply _ (ap summed_of a.in-Given.is) _ c.lay_duration.ensures
+returns-in-Ok c =
+    told-given duration_numbers _ (reply_in c.exact_sum-answer.result) _ c.exact_sum-answer.ensures.reply _ (ap reply_in c.in-Ok.is) _ c.lay.ensures
 
-pub returns-in-Refused : goal.returns-in-Refused
+pub returns-in-Err : goal.returns-in-Err
 unfolding sum_run
-returns-in-Refused c =
-    let a = c in
-    let e = a in
-    told-refused duration_numbers _ (summed_of e.exact_sum-answer.result) _ e.exact_sum-answer.ensures.reply _ (ap summed_of a.in-Refused.is) _ c.number.ensures
+returns-in-Err c =
+    told-refused duration_numbers _ (reply_in c.exact_sum-answer.result) _ c.exact_sum-answer.ensures.reply _ (ap reply_in c.in-Err.is) _ c.from.ensures

@@ -4,6 +4,5 @@ use Rattle.ffi.proofs.listen.morkhetta_listen.Goals as goal
 
 pub returns : goal.returns
 returns c =
-    let s = c in
     let did = c.listen-heard in
-    heard _ _ s.args.role _ _ _ s.args.shown.now _ did.result _ _ _ c.role_of.ensures did.ensures c.number_in.ensures c.put_board.ensures
+    heard _ _ c.args.role _ _ _ c.args.shown.now _ did.result _ _ _ c.role_of.ensures did.ensures c.number_in.ensures c.put_board.ensures

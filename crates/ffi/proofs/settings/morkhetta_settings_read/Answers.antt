@@ -1,13 +1,12 @@
 -- `settings::morkhetta_settings_read` meets its contract: the match told what `read` answered. Assumes nothing.
-use Rattle.ffi.proofs.Laying.{read-given, read-refused}
+use mathlib.Core.Path.{◌∙◌}
+use Rattle.ffi.proofs.Laying.{laid-row, read-given, read-refused}
 use Rattle.ffi.proofs.settings.morkhetta_settings_read.Goals as goal
 
-pub returns-in-Given : goal.returns-in-Given
-returns-in-Given c =
-    let a = c in
-    read-given _ _ a.read-answer.result a.read-answer.ensures _ a.in-Given.is _ c.lay.ensures
+pub returns-in-Ok : goal.returns-in-Ok
+returns-in-Ok c =
+    read-given _ _ c.read-answer.result c.read-answer.ensures _ c.in-Ok.is _ (c.lay.ensures ∙ laid-row c.in-Ok.found _ _ c.role_number-role.ensures)
 
-pub returns-in-Refused : goal.returns-in-Refused
-returns-in-Refused c =
-    let a = c in
-    read-refused _ _ a.read-answer.result a.read-answer.ensures _ a.in-Refused.is _ c.number.ensures
+pub returns-in-Err : goal.returns-in-Err
+returns-in-Err c =
+    read-refused _ _ c.read-answer.result c.read-answer.ensures _ c.in-Err.is _ c.from.ensures

@@ -4,5 +4,4 @@ use Rattle.ffi.proofs.settings.morkhetta_settings_write.Goals as goal
 
 pub returns : goal.returns
 returns c =
-    let w = c in
-    let a = w.args in let all = write-told _ _ _ a.role _ w.write-answer.result _ _ w.role_of.ensures w.write-answer.ensures c.number_in.ensures in record { value = all.0; buffer_after = all.1 }
+    let a = c.args in let all = write-told _ _ _ a.role _ c.write-answer.result _ _ c.role_of.ensures c.write-answer.ensures c.number_in.ensures in record { value = all.0; buffer_after = all.1 }

@@ -1,5 +1,5 @@
 -- From place i on the codes have what is left to count. Assumes nothing.
-use Prim.Native.Nat.{ℕ, ◌-◌, ◌≤◌}
+use Prim.Native.Nat.{ℕ}
 use mathlib.Core.List.{List}
 use lib.ListN.{length}
 use Rattle.happenings.specs.Happening.{byte_of, bad_stop_of, bytes_in, bad_stops_in}
@@ -13,8 +13,5 @@ each h = length (byte_of h)
 abbrev pub all : List Happening → ℕ
 all hs = length (bytes_in hs)
 
-abbrev pub invariant-loop-i : goal.invariant-loop-i
-invariant-loop-i l = (l.i ≤ length l.codes) × Going each all l.codes l.bytes l.i × Going bad_stop_of bad_stops_in l.codes l.bad_stops l.i
-
-abbrev pub decreases-loop-i : goal.decreases-loop-i
-decreases-loop-i l = length l.codes - l.i
+abbrev pub invariant-loop-code : goal.invariant-loop-code
+invariant-loop-code l = Going each all l.codes l.bytes l.code-index × Going bad_stop_of bad_stops_in l.codes l.bad_stops l.code-index

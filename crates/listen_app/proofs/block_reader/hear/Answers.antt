@@ -1,11 +1,8 @@
 -- From place i on a host hears what it hears from the start on. Assumes nothing.
 use native.Mathlib.Omega.{arith}
-use mathlib.Core.Bool.{true}
 use mathlib.Core.Path.{refl, sym, ◌∙◌}
-use Prim.Native.Nat.{◌-◌}
 use Rattle.listen_app.specs.Listener.{acted_by}
 use Rattle.listen_app.proofs.Hearing.{next-heard, read-on, byte_at}
-use Rattle.listen_app.specs.BlockReader.{is_quiet}
 use Rattle.listen_app.specs.BlockReaderRep.{filled}
 use Rattle.listen_app.proofs.block_reader.hear.Goals as goal
 

@@ -4,13 +4,12 @@ use Rattle.listen_app.specs.HostRep.{host_of}
 use Rattle.listen_app.specs.Listener.{view, heard_bytes}
 use Rattle.listen_app.specs.BlockReader.{BlockReaderSound}
 use Rattle.listen_app.specs.BlockReaderRep.{gathered}
-use Rattle.board.specs.BoardRep.{BoardSound}
 use lib.ListN.{length, drop}
 use Prim.Native.Nat.{◌≤◌, ◌-◌}
 use Rattle.listen_app.proofs.session.hear_part.Given as goal
 
 abbrev pub invariant-loop-at : goal.invariant-loop-at
-invariant-loop-at l = BoardSound l.host.board × BlockReaderSound l.block l.reader.n × (l.at ≤ length l.input)
+invariant-loop-at l = BlockReaderSound l.block l.reader.n × (l.at ≤ length l.input)
     × (heard_bytes (view (gathered l.reader l.block) (host_of l.host)) (drop l.at l.input) ≡ heard_bytes (view (gathered l.initial.reader l.initial.block) (host_of l.initial.host)) (drop l.initial.at l.input))
 
 abbrev pub decreases-loop-at : goal.decreases-loop-at

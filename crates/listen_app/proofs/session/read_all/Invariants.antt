@@ -1,9 +1,6 @@
--- What each turn reads stands behind what was read before. The measure is the number of turns that are left. Assumes nothing.
+-- What each turn reads stands behind what was read before. Assumes nothing.
 use Rattle.listen_app.specs.Session.{listening, HeardSome}
 use Rattle.listen_app.proofs.session.read_all.Given as goal
 
-abbrev pub invariant-loop-turns : goal.invariant-loop-turns
-invariant-loop-turns g l = HeardSome (listening l.initial.r.session) l.r.session
-
-abbrev pub decreases-loop-turns : goal.decreases-loop-turns
-decreases-loop-turns g l = l.turns
+abbrev pub invariant-loop : goal.invariant-loop
+invariant-loop g l = HeardSome (listening l.initial.session) l.session

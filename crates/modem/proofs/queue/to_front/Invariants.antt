@@ -1,10 +1,6 @@
 -- The invariant: the first i of them stand at the front, and from place i on nothing has moved. Assumes nothing.
-use Prim.Native.Nat.{◌≤◌, ◌-◌}
 use Rattle.modem.proofs.Moves.{Moving}
 use Rattle.modem.proofs.queue.to_front.Given as goal
 
 abbrev pub invariant-loop-i : goal.invariant-loop-i
-invariant-loop-i l = (l.i ≤ l.m) × Moving l.k l.i l.initial.held l.held
-
-abbrev pub decreases-loop-i : goal.decreases-loop-i
-decreases-loop-i l = l.m - l.i
+invariant-loop-i g l = Moving l.k l.i l.initial.held l.held

@@ -1,24 +1,22 @@
--- The invariant: the samples from place i on are in range exactly where all are. Assumes nothing.
-use Prim.Native.Nat.{◌-◌}
-use mathlib.Core.Path.{refl, sym, ◌∙◌}
+-- The test is made of each sample, so it is the definition's. Assumes nothing.
+use mathlib.Core.Path.{◌≡◌, refl, ap, ◌∙◌}
+use mathlib.Core.Bool.{Bool, ◌&&◌}
+use mathlib.Core.List.{List, [], ◌∷◌}
 use borrow.Author.Rules.{rules}
-use Rattle.numeric.proofs.RangeLaws.{range-fails, range-passes, range-ends}
+use borrow.Author.Tests.{tests}
+use lib.Ieee.{Float}
+use Rattle.std.specs.List.{list_all}
+use Rattle.std.proofs.lemmas.Iterator.{YieldsList-from_slice}
+use Rattle.std.proofs.lemmas.Iterator.Search.{all_from_yields_List}
+use Rattle.numeric.specs.Convert.{in_range, all_in_range}
 use Rattle.modem.proofs.samples.all_in_range.Goals as goal
 
-pub loop-i-init : goal.loop-i-init
-loop-i-init c = (search rules, refl)
-
-pub returns-then-not-in_range : goal.returns-then-not-in_range
-returns-then-not-in_range c =
-    let l = c.loop-i in
-    sym (range-fails c.in_range.result _ l.i _ (search rules) c.in_range.ensures c.if-not-in_range.true-raw) ∙ l.invariant.1
-
-pub loop-i-preserved : goal.loop-i-preserved
-loop-i-preserved c =
-    let l = c.loop-i in
-    (search rules, sym (range-passes c.in_range.result _ l.i _ (search rules) c.in_range.ensures c.if-not-in_range.false-raw) ∙ l.invariant.1)
+each : (xs : List Float) → list_all in_range xs ≡ all_in_range xs
+unfolding all_in_range
+each [] = refl
+each (x ∷ xs) = ap (λ (b : Bool). in_range x && b) (each xs)
 
 pub returns : goal.returns
 returns c =
-    let l = c.loop-i in
-    sym (range-ends c.args.samples.now l.i (search rules)) ∙ l.invariant.1
+    all_from_yields_List in_range _ _ _ c.all.ensures.ran (YieldsList-from_slice c.args.samples.now cc) (λ x b q k. search (rules, tests))
+    ∙ each c.args.samples.now

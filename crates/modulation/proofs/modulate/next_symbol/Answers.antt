@@ -2,5 +2,5 @@
 use Rattle.modulation.proofs.Tones.{keyed-is}
 use Rattle.modulation.proofs.modulate.next_symbol.Goals as goal
 
-pub returns : goal.returns
-returns c = record { result_value = keyed-is _ _ _ _ _ _ _ _ _ c.take_bit-next.ensures c.tone_of-freq.ensures c.set_freq-tuned.ensures; bits_held = c.take_bit-next.ensures.held }
+pub returns-clause-result_value : goal.returns-clause-result_value
+returns-clause-result_value c = keyed-is _ _ _ _ _ _ _ _ _ c.take_bit-next.ensures c.tone_of-freq.ensures c.set_freq-tuned.ensures

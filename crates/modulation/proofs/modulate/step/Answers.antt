@@ -2,6 +2,5 @@
 use Rattle.modulation.proofs.Tones.{once}
 use Rattle.modulation.proofs.modulate.step.Goals as goal
 
--- src/modulate.rt:127:1
-pub returns : goal.returns
-returns c = record { wave_value = once c.args.t _ _ _ c.advance-wave.ensures.result_value c.sine-value.ensures; bits_held = c.advance-wave.ensures.bits_held }
+pub returns-clause-wave_value : goal.returns-clause-wave_value
+returns-clause-wave_value c = once c.args.t _ _ _ c.advance-wave.ensures.result_value c.sine-value.ensures

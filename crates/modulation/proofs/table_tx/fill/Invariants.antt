@@ -3,7 +3,7 @@ use Prim.Native.Nat.{◌≤◌, ◌-◌, ◌+◌}
 use mathlib.Core.Path.{◌≡◌}
 use lib.ListN.{length}
 use Rattle.modulation.specs.TableTx.{sent}
-use Rattle.modulation.specs.TableTxRep.{phase_of, Keyed}
+use Rattle.modulation.specs.Keying.{phase_of, Keyed}
 use Rattle.modulation.proofs.TableSteps.{sent_at}
 use Rattle.modulation.proofs.table_tx.fill.Given as goal
 

@@ -22,6 +22,6 @@ pub returns-then-b-ge4039728865751334912 : goal.returns-then-b-ge403972886575133
 unfolding plain
 returns-then-b-ge4039728865751334912 c = rw (is_true (not (is_nan c.args.x)) (not-nan _ c.if-x.false), le-leb _ _ c.if-b-ge4039728865751334912.true)
 
-pub returns : goal.returns
+pub returns-else-b-ge4039728865751334912 : goal.returns-else-b-ge4039728865751334912
 unfolding plain
-returns c = rw (is_true (not (is_nan c.args.x)) (not-nan _ c.if-x.false), lt-leb _ _ c.if-b-ge4039728865751334912.false)
+returns-else-b-ge4039728865751334912 c = rw (is_true (not (is_nan c.args.x)) (not-nan _ c.if-x.false), lt-leb _ _ c.if-b-ge4039728865751334912.false)

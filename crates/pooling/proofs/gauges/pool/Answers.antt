@@ -7,12 +7,9 @@ use Rattle.pooling.proofs.gauges.pool.Goals as goal
 
 pub returns : goal.returns
 returns c =
-    let k = c in
-    let n = k in
-    let w = n in
-    let s = w.args in
+    let s = c.args in
     let e = newest-three (shown_of s.a) (shown_of s.b) (shown_of s.c) in
     c.of_kept.ensures
-    ∙ kept-three _ _ _ (shown_of k.keep.result) (shown_of c.keep-2.result) (shown_of c.keep-3.result) n.newer-newest_minute.result
-    (omega (arith, n.newer-newest_minute.ensures, n.newer.ensures, w.water_of-3.ensures, w.water_of-2.ensures, w.water_of.ensures))
-    k.keep.ensures c.keep-2.ensures c.keep-3.ensures
+    ∙ kept-three _ _ _ (shown_of c.keep.result) (shown_of c.keep-2.result) (shown_of c.keep-3.result) c.max-newest_minute.result
+    (omega (arith, c.max-newest_minute.ensures, c.max.ensures, c.water_of-3.ensures, c.water_of-2.ensures, c.water_of.ensures))
+    c.keep.ensures c.keep-2.ensures c.keep-3.ensures

@@ -1,9 +1,9 @@
--- The index stays within the line. Assumes nothing.
+-- The place stays within the line. Assumes nothing.
 use Rattle.std.proofs.Common.{◌-◌, length}
 use Rattle.replay.proofs.fields.digits_from.Given as goal
 
-abbrev pub invariant-loop-i : goal.invariant-loop-i
-invariant-loop-i l = Unit {0}
+abbrev pub invariant-loop-next : goal.invariant-loop-next
+invariant-loop-next l = Unit {0}
 
-abbrev pub decreases-loop-i : goal.decreases-loop-i
-decreases-loop-i l = length l.line - l.i
+abbrev pub decreases-loop-next : goal.decreases-loop-next
+decreases-loop-next l = length l.line - l.next

@@ -1,5 +1,5 @@
--- The states stay sound, and block and line keep their lengths; each turn reads on. Assumes nothing.
-use Rattle.std.proofs.Common.{ℕ, ◌-◌, ◌≤◌, sym, ◌∙◌, subst, arith, length-take-le}
+-- Block and line keep their lengths; each turn reads on. Assumes nothing.
+use Rattle.std.proofs.Common.{ℕ, ◌≤◌, sym, ◌∙◌, subst, arith, length-take-le}
 use Rattle.replay.proofs.lines.run_part.Goals as goal
 
 pub slice_bounds-run_ended-end-in-loop-at : goal.slice_bounds-run_ended-end-in-loop-at
@@ -13,4 +13,4 @@ loop-at-preserved c =
     let s = c.scan-s in
     let e = c.run_ended-d in
     let i = c.loop-at.invariant in
-    (e.ensures.0, e.ensures.1, s.ensures.3 ∙ i.2, omega (arith, c.left-n.ensures, s.ensures.2, i.2), s.ensures.1)
+    (e.ensures, s.ensures.3 ∙ i.1, omega (arith, c.left-n.ensures, s.ensures.2, i.1), s.ensures.1)

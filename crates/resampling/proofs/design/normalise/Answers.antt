@@ -4,17 +4,13 @@ use Rattle.numeric.proofs.Loops.{map-turn, rest-turn, rest-first}
 use lib.Ieee.{nan}
 use native.Mathlib.Omega.{arith}
 use mathlib.Core.Path.{◌≡◌, refl}
-use Prim.Native.Nat.{◌-◌}
 use lib.ListN.{length, length-set}
 use Rattle.numeric.specs.F64.{◌⊘◌}
 use borrow.Author.Rules.{rules}
 use Rattle.resampling.proofs.design.normalise.Goals as goal
 
 pub loop-i-init : goal.loop-i-init
-loop-i-init c = (omega arith, search rules, refl, refl)
-
-pub loop-i-smaller : goal.loop-i-smaller
-loop-i-smaller c = omega arith
+loop-i-init c = (search rules, refl, refl)
 
 pub loop-i-preserved : goal.loop-i-preserved
 loop-i-preserved c =
@@ -22,10 +18,9 @@ loop-i-preserved c =
     let old = c.args.taps in
     let k : length old ≡ most_taps = search rules in
     let h = c.requires in (
-      omega arith,
-      simp length-set l.invariant.1,
-      map-turn (λ x. x ⊘ c.args.sum) l.out old l.i nan (omega arith) (omega arith) l.invariant.2 (rest-first l.out old l.i nan l.invariant.3),
-      rest-turn l.out old l.i _ l.invariant.3,
+      simp length-set l.invariant.0,
+      map-turn (λ x. x ⊘ c.args.sum) l.taps old l.i nan (omega arith) (omega arith) l.invariant.1 (rest-first l.taps old l.i nan l.invariant.2),
+      rest-turn l.taps old l.i _ l.invariant.2,
     )
 
 pub returns : goal.returns
@@ -33,4 +28,4 @@ returns c =
     let l = c.loop-i in
     let a = c.args in
     let e : a.n ≡ l.i = omega arith in
-    rw e l.invariant.2
+    rw e l.invariant.1

@@ -1,19 +1,14 @@
 -- `feed::drain` meets its contract. The invariant: what is left to drain from where the loop stands is what was to drain at its start. Assumes nothing.
-use Prim.Native.Nat.{◌-◌}
-use mathlib.Core.Bool.{true}
-use mathlib.Core.Path.{refl, sym, ◌∙◌}
+use mathlib.Core.Path.{sym, ◌∙◌}
 use lib.ListN.{length-set}
 use Rattle.resampling.proofs.Running.{drain-turn, drain-full, drain_rest}
 use Rattle.resampling.specs.Flow.{wants}
 use Rattle.resampling.specs.FlowRep.{flow_of}
 use Rattle.resampling.proofs.feed.drain.Goals as goal
 
-pub loop-moving-init : goal.loop-moving-init
-loop-moving-init c = (λ n taps ring. refl, refl, refl)
-
-pub returns-then-at-output : goal.returns-then-at-output
-returns-then-at-output c =
-    let l = c.loop-moving in record { all_drained = λ n taps ring. sym (drain-full _ _ _ _ c.if-at-output.true) ∙ l.invariant.0 n taps ring; fir_pos_value = l.invariant.1 }
+pub returns-then-at-output-clause-all_drained : goal.returns-then-at-output-clause-all_drained
+returns-then-at-output-clause-all_drained c =
+    λ n taps ring. sym (drain-full _ _ _ _ c.if-at-output.true) ∙ c.loop-moving.invariant.0 n taps ring
 
 pub loop-moving-preserved : goal.loop-moving-preserved
 unfolding wants flow_of
@@ -25,7 +20,7 @@ loop-moving-preserved c =
       simp length-set l.invariant.2,
     )
 
-pub returns : goal.returns
+pub returns-clause-all_drained : goal.returns-clause-all_drained
 unfolding wants flow_of
-returns c =
-    let l = c.loop-moving in record { all_drained = λ n taps ring. sym (drain_rest _ _ _ _ c.loop-moving-test.false) ∙ l.invariant.0 n taps ring; fir_pos_value = l.invariant.1 }
+returns-clause-all_drained c =
+    λ n taps ring. sym (drain_rest _ _ _ _ c.loop-moving-test.false) ∙ c.loop-moving.invariant.0 n taps ring

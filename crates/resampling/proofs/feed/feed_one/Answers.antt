@@ -4,8 +4,9 @@ use mathlib.Core.List.{[]}
 use Rattle.resampling.proofs.Running.{alone, drained-from}
 use Rattle.resampling.proofs.feed.feed_one.Goals as goal
 
-pub returns : goal.returns
-returns c =
+pub returns-clause-all_fed : goal.returns-clause-all_fed
+returns-clause-all_fed c =
     let a = c.args in
     let p = c.push_one-p.ensures in
-    let d = c.drain.ensures in record { all_fed = drained-from _ _ _ _ _ _ _ (p.one_pushed a.step) (d.all_drained _ _ _) ∙ sym (alone _ _ _ _ _ []); placed = rw d.fir_pos_value p.placed }
+    let d = c.drain.ensures in
+    drained-from _ _ _ _ _ _ _ (p.one_pushed a.step) (d.all_drained _ _ _) ∙ sym (alone _ _ _ _ _ [])

@@ -5,26 +5,20 @@ use Rattle.resampling.specs.Flow.{wants}
 use Rattle.resampling.specs.FlowRep.{flow_of}
 use Rattle.resampling.proofs.feed.feed_two.Goals as goal
 
-pub returns-then-moving : goal.returns-then-moving
+pub returns-then-moving-clause-all_fed : goal.returns-then-moving-clause-all_fed
 unfolding wants flow_of
-returns-then-moving c =
-    let s = c in
+returns-then-moving-clause-all_fed c =
     let p = c.push_ahead-p.ensures in
-    let d = c.drain-d.ensures in record { all_fed = first-only _ _ _ _ _ _ _ (drained-from _ _ _ _ _ _ _ (p.one_pushed s.args.step) (d.all_drained _ _ _)) c.if-moving.true; placed = rw d.fir_pos_value p.placed }
-
-pub push_known-q-requires : goal.push_known-q-requires
-push_known-q-requires c =
-    let p = c.push_ahead-p.ensures.placed in
     let d = c.drain-d.ensures in
-    (rw d.fir_pos_value p.within, p.high, p.ring_long)
+    first-only _ _ _ _ _ _ _ (drained-from _ _ _ _ _ _ _ (p.one_pushed c.args.step) (d.all_drained _ _ _)) c.if-moving.true
 
-pub returns : goal.returns
+pub returns-clause-all_fed : goal.returns-clause-all_fed
 unfolding wants flow_of
-returns c =
-    let s = c in
+returns-clause-all_fed c =
     let p = c.push_ahead-p.ensures in
     let d = c.drain-d in
     let k = c.push_known-q.ensures in
     let u = c.drain.ensures in
-    let e = drained-from _ _ _ _ _ _ _ (p.one_pushed s.args.step) (d.ensures.all_drained _ _ _) in
-    let g = k.result_after ∙ pushed-known _ _ _ d.result.moving _ _ _ _ d.ensures.fir_pos_value p.ahead_value in record { all_fed = both-taken _ _ _ _ _ _ _ e _ c.if-moving.false (drained-from _ _ _ _ _ _ _ g (u.all_drained _ _ _)); placed = record { within = rw u.fir_pos_value k.fir_pos_bound.0; high = p.placed.high; taps_long = p.placed.taps_long; ring_long = k.fir_pos_bound.1 } }
+    let e = drained-from _ _ _ _ _ _ _ (p.one_pushed c.args.step) (d.ensures.all_drained _ _ _) in
+    let g = k.result_after ∙ pushed-known _ _ _ d.result.moving _ _ _ _ d.ensures.fir_pos_value p.ahead_value in
+    both-taken _ _ _ _ _ _ _ e _ c.if-moving.false (drained-from _ _ _ _ _ _ _ g (u.all_drained _ _ _))

@@ -1,5 +1,5 @@
 -- `filter::filter_all` meets its contract. The invariant: the samples before i went through the filter, and those behind are as they came. Assumes nothing.
-use Prim.Native.Nat.{◌+◌, ◌-◌, ◌<◌}
+use Prim.Native.Nat.{◌+◌, ◌<◌}
 use mathlib.Core.Path.{◌≡◌, refl}
 use mathlib.Core.List.{◌∷◌}
 use native.Mathlib.Omega.{arith}
@@ -35,8 +35,3 @@ returns-then-i-samples c =
     let w : drop l.i l.samples ≡ get_or l.samples l.i nan ∷ drop (l.i + 1) l.samples = rw add-one (drop-cons l.samples l.i nan t) in
     let g = filtered-turn s₀ l.samples l.i l.invariant.1 l.invariant.0 f w refl (omega arith) in
     rw c.ring_next-then-i-samples.ensures.0 (all-filtered s₀ _ (l.i + 1) g.0 (simp length-set (omega arith)) (omega arith))
-
-pub returns : goal.returns
-returns c =
-    let l = c.loop-i in
-    all-filtered _ _ l.i l.invariant.0 (omega arith) (omega arith)

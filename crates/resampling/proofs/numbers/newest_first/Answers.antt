@@ -5,27 +5,23 @@ use native.Mathlib.Omega.{arith}
 use lib.Ieee.{Float}
 use Rattle.numeric.specs.F64.{zero64}
 use lib.ListN.{length-set, length-replicate}
-use mathlib.Core.Path.{sym, ◌∙◌}
-use Prim.Native.Nat.{◌-◌, zero-le}
+use mathlib.Core.Path.{◌≡◌, sym, ◌∙◌}
+use Prim.Native.Nat.{◌<◌}
 use Rattle.resampling.proofs.numbers.newest_first.Goals as goal
 
 pub loop-i-init : goal.loop-i-init
-loop-i-init c = (zero-le, rw c.zeros-a.ensures (length-replicate {A = Float} most_taps zero64), c.requires.1, newest-start c.args.n c.args.pos c.args.ring)
-
-pub ring_back-idx-requires : goal.ring_back-idx-requires
-ring_back-idx-requires c = c.loop-i.invariant.2 (omega (arith, c.loop-i-test.true))
-
-pub loop-i-smaller : goal.loop-i-smaller
-loop-i-smaller c = omega (arith, c.loop-i-test.true)
+loop-i-init c = (rw c.filled-a.ensures (length-replicate {A = Float} most_taps zero64), c.requires.1, newest-start c.args.n c.args.pos c.args.ring)
 
 pub loop-i-preserved : goal.loop-i-preserved
 loop-i-preserved c =
     let l = c.loop-i in
-    let t = c.loop-i-test.true in
     let p = c.requires in
-    (omega (arith, t), rw length-set l.invariant.1, (λ h. c.ring_back-idx.ensures.1), rw c.ring_back-idx.ensures.0 (newest-step c.args.n l.idx l.i c.args.ring l.a t (omega (arith, t, l.invariant.1, p.0))) ∙ l.invariant.3)
+    let t : l.i < c.args.n = omega arith in
+    let r = c.ring_back-idx.ensures in
+    (rw length-set l.invariant.0, (λ h. r.1), rw r.0 (newest-step c.args.n l.idx l.i c.args.ring l.a t (omega (arith, l.invariant.0, p.0))) ∙ l.invariant.2)
 
 pub returns : goal.returns
 returns c =
     let l = c.loop-i in
-    sym (newest-end c.args.n l.idx l.i c.args.ring l.a (omega (arith, c.loop-i-test.false, l.invariant.0))) ∙ l.invariant.3
+    let e : l.i ≡ c.args.n = omega arith in
+    sym (newest-end c.args.n l.idx l.i c.args.ring l.a e) ∙ l.invariant.2

@@ -4,11 +4,8 @@ use Rattle.resampling.specs.FilterRep.{ring_back, walk, history_of}
 use lib.ListN.{length, take}
 use mathlib.Core.List.{◌++◌}
 use mathlib.Core.Path.{◌≡◌}
-use Prim.Native.Nat.{◌-◌, ◌<◌, ◌≤◌}
+use Prim.Native.Nat.{◌-◌, ◌<◌}
 use Rattle.resampling.proofs.numbers.newest_first.Given as goal
 
 abbrev pub invariant-loop-i : goal.invariant-loop-i
-invariant-loop-i l = (l.i ≤ l.n) × (length l.a ≡ most_taps) × (0 < l.n → l.idx < l.n) × (take l.i l.a ++ walk (l.n - l.i) l.n (ring_back l.n l.idx) l.ring ≡ history_of l.n l.pos l.ring)
-
-abbrev pub decreases-loop-i : goal.decreases-loop-i
-decreases-loop-i l = l.n - l.i
+invariant-loop-i l = (length l.a ≡ most_taps) × (0 < l.n → l.idx < l.n) × (take l.i l.a ++ walk (l.n - l.i) l.n (ring_back l.n l.idx) l.ring ≡ history_of l.n l.pos l.ring)

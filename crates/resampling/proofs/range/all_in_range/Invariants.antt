@@ -1,12 +1,8 @@
 -- The invariant: the samples from place i on are in range exactly where all are. Assumes nothing.
-use Prim.Native.Nat.{◌≤◌, ◌-◌}
 use mathlib.Core.Path.{◌≡◌}
-use lib.ListN.{length, drop}
+use lib.ListN.{drop}
 use Rattle.numeric.specs.Convert.{all_in_range}
 use Rattle.resampling.proofs.range.all_in_range.Given as goal
 
-abbrev pub invariant-loop-i : goal.invariant-loop-i
-invariant-loop-i l = (l.i ≤ length l.samples) × (all_in_range (drop l.i l.samples) ≡ all_in_range l.samples)
-
-abbrev pub decreases-loop-i : goal.decreases-loop-i
-decreases-loop-i l = length l.samples - l.i
+abbrev pub invariant-loop-x : goal.invariant-loop-x
+invariant-loop-x l = all_in_range (drop l.x-index l.samples) ≡ all_in_range l.samples

@@ -4,11 +4,11 @@ use Rattle.resampling.proofs.Running.{pushed-down}
 use Rattle.resampling.proofs.Ring.{went-in, history-next}
 use Rattle.resampling.proofs.sample.push_ahead.Goals as goal
 
-pub returns : goal.returns
-returns c =
-    let a = c.args in
-    let p = c.requires in
-    let f = c.fir_sums-y.ensures in
-    let r = c.ring_next-next.ensures in
-    let s = c.slide-moving.ensures in
-    let w = went-in _ _ _ _ a.x _ p f.first_value in record { one_pushed = λ step. s.by_index _ _ ∙ pushed-down _ _ _ _ step _ _ _ _ w r.0; placed = record { within = rw s.fir_pos_value r.1; high = p.high; taps_long = p.taps_long; ring_long = w.long }; ahead_value = rw (s.fir_pos_value, r.0, history-next _ _ _ p.within) f.second_value }
+pub returns-clause-one_pushed : goal.returns-clause-one_pushed
+returns-clause-one_pushed c =
+    let w = went-in _ _ _ _ c.args.x _ c.requires c.fir_sums-y.ensures.first_value in
+    λ step. c.slide-moving.ensures.by_index _ _ ∙ pushed-down _ _ _ _ step _ _ _ _ w c.ring_next-next.ensures.0
+
+pub returns-clause-ahead_value : goal.returns-clause-ahead_value
+returns-clause-ahead_value c =
+    rw (c.slide-moving.ensures.fir_pos_value, c.ring_next-next.ensures.0, history-next _ _ _ c.requires.within) c.fir_sums-y.ensures.second_value

@@ -3,9 +3,8 @@ use mathlib.Core.Path.{◌∙◌}
 use Rattle.resampling.proofs.Running.{pushed-down}
 use Rattle.resampling.proofs.sample.push_one.Goals as goal
 
-pub returns : goal.returns
-returns c =
-    let p = c.requires in
+pub returns-clause-one_pushed : goal.returns-clause-one_pushed
+returns-clause-one_pushed c =
     let f = c.fir_push-y.ensures in
-    let r = c.ring_next-next.ensures in
-    let s = c.slide.ensures in record { one_pushed = λ step. s.by_index _ _ ∙ pushed-down _ _ _ _ step _ _ _ _ f r.0; placed = record { within = rw s.fir_pos_value r.1; high = p.high; taps_long = p.taps_long; ring_long = f.long } }
+    let r = c.ring_next.ensures in
+    λ step. c.slide.ensures.by_index _ _ ∙ pushed-down _ _ _ _ step _ _ _ _ f r.0

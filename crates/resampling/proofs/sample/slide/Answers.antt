@@ -3,6 +3,6 @@ use mathlib.Core.Path.{refl}
 use Rattle.resampling.specs.FlowRep.{flow_of}
 use Rattle.resampling.proofs.sample.slide.Goals as goal
 
-pub returns : goal.returns
+pub returns-clause-by_index : goal.returns-clause-by_index
 unfolding flow_of
-returns c = record { by_index = λ n ring. refl; fir_pos_value = refl }
+returns-clause-by_index c = λ n ring. refl

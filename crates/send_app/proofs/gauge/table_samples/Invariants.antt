@@ -1,10 +1,9 @@
 -- Each turn sends a block, until all are sent or one is not written. Assumes nothing.
 use Rattle.std.proofs.Common.{◌-◌, ◌≤◌, length}
-use Rattle.modulation.specs.TableTxRep.{TableSound}
 use Rattle.send_app.proofs.gauge.table_samples.Given as goal
 
 abbrev pub invariant-loop-sent : goal.invariant-loop-sent
-invariant-loop-sent l = TableSound l.s.tx × (l.s.at ≤ length l.text) × (l.sent ≤ l.samples)
+invariant-loop-sent l = (l.s.at ≤ length l.text) × (l.sent ≤ l.samples)
 
 abbrev pub decreases-loop-sent : goal.decreases-loop-sent
 decreases-loop-sent l = l.samples - l.sent

@@ -1,8 +1,8 @@
 -- `resampler::show_accepted` meets its contract, by the answer of `new`. Assumes nothing.
 use Rattle.snapshot.proofs.resampler.show_accepted.Goals as goal
 
-pub returns-in-Refused : goal.returns-in-Refused
-returns-in-Refused c = rw c.in-Refused.is
+pub returns-in-Err : goal.returns-in-Err
+returns-in-Err c = rw c.in-Err.is
 
-pub returns-in-Accepted : goal.returns-in-Accepted
-returns-in-Accepted c = rw c.in-Accepted.is c.show_numbers.ensures
+pub returns-in-Ok : goal.returns-in-Ok
+returns-in-Ok c = rw c.in-Ok.is c.show_numbers.ensures

@@ -14,5 +14,5 @@ returns c =
     let k-long : length k.result ≡ 8 = search rules in
     let b-long : length b.result ≡ 4096 = search rules in
     let p-long : length p.result ≡ 64 = search rules in
-    sender-put (sender_of c.args.tx) _ _ _ _ _ _ _ _ _ c.resampler-r.ensures.0 k.ensures b.ensures p.ensures k-long b-long p-long
+    sender-put (sender_of c.args.tx) _ _ _ _ _ _ _ _ _ c.resampler-r.ensures k.ensures b.ensures p.ensures k-long b-long p-long
     c.put_numbers.ensures c.put.ensures c.put-2.ensures c.put-3.ensures

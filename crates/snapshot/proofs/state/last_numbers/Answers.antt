@@ -1,4 +1,6 @@
 -- `state::last_numbers` meets its contract: each number is what the receiver says. Assumes nothing.
+use mathlib.Core.Path.{◌∙◌}
+use Rattle.snapshot.proofs.StateCalls.{truth-is}
 use native.Mathlib.Omega.{arith}
 use lib.Dec.{le→leb}
 use lib.Ieee.{in_float}
@@ -17,4 +19,4 @@ unfolding in_float
 int_to_float-result-3 c = omega (arith, le→leb, c.accepted-accepted.ensures.1)
 
 pub returns : goal.returns
-returns c = rw (c.block_number-block.ensures, c.one_or_zero-gate.ensures, c.one_or_zero-up.ensures, c.one_or_zero-ever.ensures, c.waiting-bytes.ensures.0, c.events_waiting-events.ensures.0, c.accepted-accepted.ensures.0, ← c.demodulator-demod.ensures.0, c.core-core.ensures)
+returns c = rw (c.block_number-block.ensures, c.from-gate.ensures ∙ truth-is _, c.from-up.ensures ∙ truth-is _, c.from-ever.ensures ∙ truth-is _, c.waiting-bytes.ensures.0, c.events_waiting-events.ensures.0, c.accepted-accepted.ensures.0, ← c.demodulator-demod.ensures, c.core-core.ensures)

@@ -2,4 +2,4 @@
 use Rattle.snapshot.proofs.state.put_resampler.Goals as goal
 
 pub returns : goal.returns
-returns c = rw (← c.resampler-r.ensures.0) c.put_numbers.ensures
+returns c = rw (← c.resampler.ensures) c.put_numbers.ensures

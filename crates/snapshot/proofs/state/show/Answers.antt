@@ -4,4 +4,4 @@ use mathlib.Core.Path.{ap}
 use Rattle.snapshot.proofs.state.show.Goals as goal
 
 pub returns : goal.returns
-returns c = rw (← c.all_steps-rx.ensures.0) (ap (shown 1) c.put_state.ensures)
+returns c = rw (← c.all_steps-rx.ensures) (ap (shown 1) c.put_state.ensures)

@@ -8,12 +8,12 @@ pub returns-then-state-lt909 : goal.returns-then-state-lt909
 unfolding state_run
 returns-then-state-lt909 c = rw (lt-ltb _ _ c.if-state-lt909.true)
 
-pub returns-in-Refused : goal.returns-in-Refused
+pub returns-in-Err : goal.returns-in-Err
 unfolding state_run
-returns-in-Refused c = rw (le-ltb _ _ c.if-state-lt909.false, rate-refused _ _ _ _ (rw c.in-Refused.is at c.new-made.ensures.0))
+returns-in-Err c = rw (le-ltb _ _ c.if-state-lt909.false, rate-refused _ _ _ _ (rw c.in-Err.is at c.new-made.ensures))
 
-pub returns-in-Accepted : goal.returns-in-Accepted
+pub returns-in-Ok : goal.returns-in-Ok
 unfolding state_run
-returns-in-Accepted c =
-    let a = rate-accepted _ _ _ (rw c.in-Accepted.is at c.new-made.ensures.0) in
+returns-in-Ok c =
+    let a = rate-accepted _ _ _ (rw c.in-Ok.is at c.new-made.ensures) in
     rw (le-ltb _ _ c.if-state-lt909.false, a.0, ← c.role_of.ensures, ← a.1) c.show.ensures

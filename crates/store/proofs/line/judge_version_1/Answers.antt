@@ -17,22 +17,16 @@ returns-then-n-ne7 c =
 
 pub returns-then-not-rate_ok : goal.returns-then-not-rate_ok
 returns-then-not-rate_ok c =
-    let d = c in
-    let s = d.args.s.now in
-    bad-rate (unhex s) (omega (arith, length-unhex s, d.if-n-ne7.false)) _ _ c.word-rate.ensures.0 c.rate_ok.ensures c.if-not-rate_ok.true-raw
+    let s = c.args.s.now in
+    bad-rate (unhex s) (omega (arith, length-unhex s, c.if-n-ne7.false)) _ _ c.word-rate.ensures.0 c.rate_ok.ensures c.if-not-rate_ok.true-raw
 
 pub returns-then-station-eq0 : goal.returns-then-station-eq0
 returns-then-station-eq0 c =
-    let g = c in
-    let d = g in
-    let s = d.args.s.now in
-    bad-station (unhex s) (omega (arith, length-unhex s, d.if-n-ne7.false)) _ _ g.word-rate.ensures.0 g.rate_ok.ensures g.if-not-rate_ok.false-raw _ c.word-station.ensures.0 c.if-station-eq0.true
+    let s = c.args.s.now in
+    bad-station (unhex s) (omega (arith, length-unhex s, c.if-n-ne7.false)) _ _ c.word-rate.ensures.0 c.rate_ok.ensures c.if-not-rate_ok.false-raw _ c.word-station.ensures.0 c.if-station-eq0.true
 
 pub returns : goal.returns
 returns c =
-    let e = c in
-    let g = e in
-    let d = g in
-    let s = d.args.s.now in
+    let s = c.args.s.now in
     c.with_role.ensures
-    ∙ by-role (unhex s) (omega (arith, length-unhex s, d.if-n-ne7.false)) _ _ g.word-rate.ensures.0 g.rate_ok.ensures g.if-not-rate_ok.false-raw _ e.word-station.ensures.0 e.if-station-eq0.false _ c.byte.ensures.0
+    ∙ by-role (unhex s) (omega (arith, length-unhex s, c.if-n-ne7.false)) _ _ c.word-rate.ensures.0 c.rate_ok.ensures c.if-not-rate_ok.false-raw _ c.word-station.ensures.0 c.if-station-eq0.false _ c.byte.ensures.0

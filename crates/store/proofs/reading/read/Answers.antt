@@ -1,5 +1,5 @@
 -- What the pass over the store found. Assumes nothing.
-use Rattle.store.specs.declared.reading.Latest.TheVariants as latest
+use Rattle.std.specs.Prelude.{Some, None}
 use mathlib.Core.Path.{sym}
 use lib.Seq.{length-take-le}
 use Rattle.store.proofs.Passing.{read_is}
@@ -12,10 +12,10 @@ pub returns-in-None : goal.returns-in-None
 returns-in-None c =
     let p = c.pass_all-f in
     let n = c.store_len-n in
-    read_is _ _ p.result.latest p.result.unknown n.ensures.1 p.ensures.0 p.ensures.1 latest.None c.in-None.is
+    read_is _ _ p.result.latest p.result.unknown n.ensures.1 p.ensures.0 p.ensures.1 None c.in-None.is
 
-pub returns-in-Good : goal.returns-in-Good
-returns-in-Good c =
+pub returns-in-Some : goal.returns-in-Some
+returns-in-Some c =
     let p = c.pass_all-f in
     let n = c.store_len-n in
-    read_is _ _ p.result.latest p.result.unknown n.ensures.1 p.ensures.0 p.ensures.1 (latest.Good c.in-Good.settings) c.in-Good.is
+    read_is _ _ p.result.latest p.result.unknown n.ensures.1 p.ensures.0 p.ensures.1 (Some c.in-Some.settings) c.in-Some.is

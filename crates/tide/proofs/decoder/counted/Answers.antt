@@ -1,28 +1,18 @@
 -- The store of one more, where the counts have held so far. Assumes nothing.
+use mathlib.Core.Path.{sym, ap, ◌∙◌}
+use lib.Seq.{set_out}
 use native.Mathlib.Omega.{arith}
 use Rattle.tide.specs.Decoder.{bump}
-use Rattle.tide.proofs.DecoderLaws.{place-lt}
-use Rattle.tide.proofs.Stores.{held-set}
+use Rattle.tide.specs.Held.{held}
+use Rattle.tide.proofs.Stores.{held-set, place_some, place_none}
 use Rattle.tide.proofs.decoder.counted.Goals as goal
 
-pub offset_bounds-r-k : goal.offset_bounds-r-k
-offset_bounds-r-k c =
-    omega (arith, c.place_of-k.ensures, place-lt _ c.requires.0, c.requires.1)
-
-pub bounds-r-k : goal.bounds-r-k
-bounds-r-k c =
-    omega (arith, c.place_of-k.ensures, place-lt _ c.requires.0, c.requires.1)
-
-pub offset_bounds-r-k-2 : goal.offset_bounds-r-k-2
-offset_bounds-r-k-2 c =
-    omega (arith, c.place_of-k.ensures, place-lt _ c.requires.0, c.requires.1)
-
-pub bounds-r-k-2 : goal.bounds-r-k-2
-bounds-r-k-2 c =
-    omega (arith, c.place_of-k.ensures, place-lt _ c.requires.0, c.requires.1)
-
-pub returns : goal.returns
+pub returns-in-Some : goal.returns-in-Some
 unfolding bump
-returns c =
-    let p = c.requires in
-    rw (c.one_more.ensures, c.place_of-k.ensures) (held-set _ _ p.2)
+returns-in-Some c = rw (c.saturating_add.ensures, (place_some _ _ c.in-Some.ensures).0) (held-set _ _ c.requires.1)
+
+pub returns-in_default : goal.returns-in_default
+unfolding bump
+returns-in_default c =
+    let out = place_none _ c.in_default.ensures in
+    sym (ap held (set_out c.args.counts _ _ (omega (arith, out, c.requires.0))) ∙ c.requires.1)

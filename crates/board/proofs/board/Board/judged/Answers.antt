@@ -1,4 +1,4 @@
--- `Board::judged` meets its contract: the counts of a sound board together fit. Assumes nothing.
+-- `Board::judged` meets its contract: the counts of a board together fit. Assumes nothing.
 use mathlib.Core.Path.{◌∙◌, ap}
 use Rattle.hexadecimal.specs.Hex.{total}
 use Rattle.board.specs.BoardRep.{plain_of}
@@ -8,7 +8,7 @@ use Rattle.board.proofs.board.Board.judged.Goals as goal
 pub sum_of-requires : goal.sum_of-requires
 sum_of-requires c =
     let s = c in
-    rw c.counts.ensures (s.requires.decoder.places, counts-fit s.args.self s.requires)
+    rw c.counts.ensures (s.args.self.decoder.places, counts-fit s.args.self)
 
 pub returns : goal.returns
 unfolding plain_of

@@ -1,16 +1,6 @@
--- Correlator, block and gate are each what their function ensures.
-use mathlib.Core.Path.{ap}
-use Rattle.demodulation.specs.Carrier.{Answered}
-use Rattle.demodulation.specs.Demod.{fed}
+-- A step's place is one of the rings' again. Assumes nothing.
+use Rattle.demodulation.proofs.DemodLaws.{next_place}
 use Rattle.demodulation.proofs.demod.Core.feed.Goals as goal
 
-pub returns : goal.returns
-unfolding fed
-returns c rings =
-    let block = c.feed-judged.ensures in
-    rw (
-      c.gate_after.ensures,
-      ap (λ (x : Answered). x.state) block,
-      ap (λ (x : Answered). x.answer) block,
-      c.advance-advanced.ensures,
-    )
+pub invariant_of-self-clause-place : goal.invariant_of-self-clause-place
+invariant_of-self-clause-place c = rw c.advance-next.ensures (next_place c.args.self.corr)

@@ -6,23 +6,20 @@ use Rattle.listen_app.proofs.Hosting.{eights-on, eights-end, eights-all}
 use Rattle.listen_app.proofs.host.Host.write_eights.Goals as goal
 
 pub loop-left-init : goal.loop-left-init
-loop-left-init c = (c.requires, omega arith, refl)
-
-pub write_front-host-requires : goal.write_front-host-requires
-write_front-host-requires c = c.loop-left.invariant.0
+loop-left-init c = (omega arith, refl)
 
 pub eight_on-at-requires : goal.eight_on-at-requires
-eight_on-at-requires c = c.loop-left.invariant.1
+eight_on-at-requires c = c.loop-left.invariant.0
 
 pub loop-left-preserved : goal.loop-left-preserved
 loop-left-preserved c =
     let t = c in
     let w = c.write_front-host.ensures in
     let e = c.eight_on-at.ensures in
-    (w.sound, omega (arith, e), eights-on _ _ _ _ _ _ t.loop-left-test.true e w.same ∙ t.loop-left.invariant.2)
+    (omega (arith, e), eights-on _ _ _ _ _ _ t.loop-left-test.true e w.same ∙ t.loop-left.invariant.1)
 
 pub returns : goal.returns
 returns c =
     let l = c.loop-left.invariant in
     let a = c.args in
-    record { same = eights-all a.samples.now (host_of a.self) _ (eights-end _ _ _ _ c.loop-left-test.false l.2); sound = l.0 }
+    record { same = eights-all a.samples.now (host_of a.self) _ (eights-end _ _ _ _ c.loop-left-test.false l.1) }

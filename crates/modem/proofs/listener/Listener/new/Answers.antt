@@ -5,21 +5,21 @@ use Rattle.refusal.specs.Refusals.{first, rate_refused}
 use Rattle.modem.specs.Listener.{admitted}
 use Rattle.modem.proofs.listener.Listener.new.Goals as goal
 
-pub fresh_at-state-requires : goal.fresh_at-state-requires
-fresh_at-state-requires c = sym c.rate_ok.ensures ∙ ap not c.if-rate_ok.true
+pub fresh_at-requires : goal.fresh_at-requires
+fresh_at-requires c = sym c.rate_ok.ensures ∙ ap not c.if-rate_ok.true
 
 pub returns-then-rate_ok : goal.returns-then-rate_ok
 unfolding first admitted
 returns-then-rate_ok c =
     let e = sym c.rate_ok.ensures ∙ ap not c.if-rate_ok.true in
-    record { answer = rw e refl; fresh = rw e c.fresh_at-state.ensures }
+    record { answer = rw e refl; fresh = rw e c.fresh_at.ensures }
 
-pub fresh_at-state-requires-2 : goal.fresh_at-state-requires-2
+pub fresh_at-requires-2 : goal.fresh_at-requires-2
 unfolding rate_refused
-fresh_at-state-requires-2 c = refl
+fresh_at-requires-2 c = refl
 
 pub returns : goal.returns
 unfolding first admitted
 returns c =
     let e = sym c.rate_ok.ensures ∙ ap not c.if-rate_ok.false in
-    record { answer = rw e refl; fresh = rw e c.fresh_at-state-2.ensures }
+    record { answer = rw e refl; fresh = rw e c.fresh_at-2.ensures }

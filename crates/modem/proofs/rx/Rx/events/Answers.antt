@@ -6,6 +6,5 @@ use Rattle.modem.proofs.rx.Rx.events.Goals as goal
 pub returns : goal.returns
 unfolding receiver_of event_of
 returns c =
-    let p = c.requires in
     let n = c.next-next.ensures in
-    (rw (n.oldest, n.rest.waits), record { listener = p.listener; bytes = p.bytes; events = n.rest.sound })
+    rw (n.oldest, n.rest)

@@ -6,4 +6,4 @@ use Rattle.modem.proofs.rx.Rx.events_waiting.Goals as goal
 
 pub returns : goal.returns
 unfolding receiver_of
-returns c = (sym (logged-length _ c.requires.events), c.requires.events.room)
+returns c = (sym (logged-length c.args.self.events), c.args.self.events.room)

@@ -5,4 +5,4 @@ use Rattle.modem.proofs.rx.Rx.framing_errors.Goals as goal
 
 pub returns : goal.returns
 unfolding receiver_of demod_of
-returns c = rw (← c.deframer-f.ensures) c.framing_errors.ensures
+returns c = rw (← c.deframer.ensures) c.framing_errors.ensures

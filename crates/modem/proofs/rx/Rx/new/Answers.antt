@@ -7,10 +7,7 @@ use Rattle.modem.proofs.rx.Rx.new.Goals as goal
 pub returns : goal.returns
 unfolding receiver_of fresh_receiver
 returns c =
-    let s = c in
     let o = c.new-o.ensures in
-    let b = c.new-out.ensures in
-    let e = c.new-events.ensures in (
-      rw (new_is s.args.rate s.args.role, o.answer, o.fresh.demod, o.fresh.accepted, b.waits, e.waits),
-      record { listener = o.fresh.sound; bytes = b.sound; events = e.sound },
-    )
+    let b = c.new.ensures in
+    let e = c.new-2.ensures in
+    rw (new_is c.args.rate c.args.role, o.answer, o.fresh.demod, o.fresh.accepted, b, e)

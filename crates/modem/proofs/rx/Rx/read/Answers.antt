@@ -6,6 +6,5 @@ use Rattle.modem.proofs.rx.Rx.read.Goals as goal
 pub returns : goal.returns
 unfolding receiver_of read_of
 returns c =
-    let p = c.requires in
     let d = c.drain-d.ensures in
-    (rw (d.count, d.buffer, d.rest.waits), record { listener = p.listener; bytes = d.rest.sound; events = p.events })
+    rw (d.count, d.buffer, d.rest)

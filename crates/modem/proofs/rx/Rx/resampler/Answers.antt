@@ -1,4 +1,4 @@
--- `Rx::resampler` meets its contract: a sound state has a sound one. Assumes nothing.
+-- `Rx::resampler` meets its contract: it is the listener's. Assumes nothing.
 use mathlib.Core.Path.{refl}
 use Rattle.modem.specs.ListenerRep.{demod_of}
 use Rattle.modem.specs.RxRep.{receiver_of}
@@ -6,4 +6,4 @@ use Rattle.modem.proofs.rx.Rx.resampler.Goals as goal
 
 pub returns : goal.returns
 unfolding receiver_of demod_of
-returns c = (refl, c.requires.listener.resampler)
+returns c = refl

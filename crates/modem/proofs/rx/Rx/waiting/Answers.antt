@@ -6,4 +6,4 @@ use Rattle.modem.proofs.rx.Rx.waiting.Goals as goal
 
 pub returns : goal.returns
 unfolding receiver_of
-returns c = (sym (queued_length _ c.requires.bytes), c.requires.bytes.room)
+returns c = (sym (queued_length c.args.self.out), c.args.self.out.room)

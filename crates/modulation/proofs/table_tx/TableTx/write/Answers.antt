@@ -4,5 +4,4 @@ use Rattle.modulation.proofs.QueueingLaws.{queued-table}
 use Rattle.modulation.proofs.table_tx.TableTx.write.Goals as goal
 
 pub returns : goal.returns
-returns c =
-    let z = c in let all = queued-table _ _ (write z.args.«data».now) _ _ z.requires c.ask_frames-asked.ensures c.with_bits-state.ensures in record { state_value = all.0; table_sound = all.1 }
+returns c = record { state_value = queued-table _ _ (write c.args.«data».now) _ _ c.ask_frames-asked.ensures c.with_bits-state.ensures }

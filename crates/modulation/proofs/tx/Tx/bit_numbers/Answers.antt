@@ -2,9 +2,6 @@
 use Rattle.modulation.specs.TxRep.{modulator_of, sender_of}
 use Rattle.modulation.proofs.tx.Tx.bit_numbers.Goals as goal
 
-pub bit_places-requires : goal.bit_places-requires
-bit_places-requires c = c.requires.bits
-
 pub returns : goal.returns
 unfolding sender_of modulator_of
 returns c = c.bit_places.ensures

@@ -5,14 +5,11 @@ use mathlib.Core.Bool.{not}
 use mathlib.Core.Path.{refl, sym, ap, ◌∙◌}
 use Rattle.modulation.proofs.tx.Tx.new.Goals as goal
 
-pub fresh_at-state-requires : goal.fresh_at-state-requires
-fresh_at-state-requires c = sym c.rate_ok.ensures ∙ ap not c.if-rate_ok.true
-
 pub returns-then-rate_ok : goal.returns-then-rate_ok
 unfolding new_of
 returns-then-rate_ok c =
     let e = sym c.rate_ok.ensures ∙ ap not c.if-rate_ok.true in
-    (rw (e, c.fresh_at-state.ensures.0), c.fresh_at-state.ensures.1)
+    rw (e, c.fresh_at-state.ensures)
 
 pub fresh_at-state-requires-2 : goal.fresh_at-state-requires-2
 unfolding rate_refused
@@ -22,4 +19,4 @@ pub returns : goal.returns
 unfolding new_of
 returns c =
     let e = sym c.rate_ok.ensures ∙ ap not c.if-rate_ok.false in
-    (rw (e, c.fresh_at-state-2.ensures.0), c.fresh_at-state-2.ensures.1)
+    rw (e, c.fresh_at-state-2.ensures)

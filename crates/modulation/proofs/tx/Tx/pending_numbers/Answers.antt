@@ -2,9 +2,6 @@
 use Rattle.modulation.specs.TxRep.{modulator_of, sender_of}
 use Rattle.modulation.proofs.tx.Tx.pending_numbers.Goals as goal
 
-pub sample_places-requires : goal.sample_places-requires
-sample_places-requires c = c.requires.pending
-
 pub returns : goal.returns
 unfolding sender_of modulator_of
 returns c = c.sample_places.ensures

@@ -8,12 +8,11 @@ use Rattle.modulation.proofs.tx.Tx.set_amplitude.Goals as goal
 pub returns-then-amplitude_ok : goal.returns-then-amplitude_ok
 unfolding amplitude_of sender_of modulator_of
 returns-then-amplitude_ok c =
-    let u = c.requires in
     let e = sym c.amplitude_ok.ensures ∙ ap not c.if-amplitude_ok.true in
-    (rw e, record { rising = u.rising; bits = u.bits; pending = u.pending; fed = u.fed; few = u.few })
+    rw e
 
 pub returns : goal.returns
 unfolding amplitude_of sender_of modulator_of
 returns c =
     let e = sym c.amplitude_ok.ensures ∙ ap not c.if-amplitude_ok.false in
-    (rw e, c.requires)
+    rw e

@@ -4,5 +4,4 @@ use Rattle.modulation.proofs.QueueingLaws.{queued-so}
 use Rattle.modulation.proofs.tx.Tx.write_idle_mark.Goals as goal
 
 pub returns : goal.returns
-returns c =
-    let z = c in let all = queued-so _ _ (idle_mark z.args.n) _ _ z.requires c.ask_marks-asked.ensures c.with_bits-state.ensures in record { state_value = all.0; tx_sound = all.1 }
+returns c = record { state_value = queued-so _ _ (idle_mark c.args.n) _ _ c.ask_marks-asked.ensures c.with_bits-state.ensures }

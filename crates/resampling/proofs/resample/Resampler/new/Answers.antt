@@ -11,9 +11,9 @@ fresh_at-state-requires c = in-range _ _ (sym c.rates_ok.ensures ∙ ap not c.if
 pub returns-then-rates_ok : goal.returns-then-rates_ok
 unfolding new_of
 returns-then-rates_ok c =
-    let e = sym c.rates_ok.ensures ∙ ap not c.if-rates_ok.true in record { state_value = rw (e, c.fresh_at-state.ensures.0); sound = c.fresh_at-state.ensures.1 }
+    let e = sym c.rates_ok.ensures ∙ ap not c.if-rates_ok.true in record { state_value = rw (e, c.fresh_at-state.ensures) }
 
 pub returns : goal.returns
 unfolding new_of
 returns c =
-    let e = sym c.rates_ok.ensures ∙ ap not c.if-rates_ok.false in record { state_value = rw (e, c.fresh_at-state-2.ensures.0); sound = c.fresh_at-state-2.ensures.1 }
+    let e = sym c.rates_ok.ensures ∙ ap not c.if-rates_ok.false in record { state_value = rw (e, c.fresh_at-state-2.ensures) }

@@ -3,4 +3,4 @@ use Rattle.resampling.proofs.NumberLaws.{taps-shown}
 use Rattle.resampling.proofs.resample.Resampler.tap_numbers.Goals as goal
 
 pub returns : goal.returns
-returns c = taps-shown _ c.requires _ c.cleared.ensures
+returns c = taps-shown _ _ c.cleared.ensures

@@ -5,4 +5,4 @@ use Rattle.resampling.proofs.resample.Resampler.window_numbers.Goals as goal
 
 pub returns : goal.returns
 unfolding state_of flow_of
-returns c = rw c.requires.step
+returns c = rw c.args.self.quotient

@@ -1,23 +1,19 @@
 -- The judgement is what `judge_line` ensures, and the counts what `counted` ensures. Assumes nothing.
-use mathlib.Core.Path.{sym, ap}
-use lib.Seq.{length-take-le}
-use native.Mathlib.Omega.{arith}
-use Rattle.tide.specs.Judge.{Verdict}
-use Rattle.tide.proofs.DecoderLaws.{judge-answers}
+use mathlib.Core.Path.{refl}
+use lib.ListN.{length-set}
+use Rattle.tide.specs.Decoder.{bump}
+use Rattle.tide.proofs.DecoderRepLaws.{held-held, length-held}
 use Rattle.tide.proofs.Moves.{stepped-end}
 use Rattle.tide.proofs.decoder.Decoder.end_line.Goals as goal
 
-pub slice_bounds-judge_line-end : goal.slice_bounds-judge_line-end
-slice_bounds-judge_line-end c =
-    let b = c in
-    sym (length-take-le b.args.self.line.len b.args.self.line.chars (omega (arith, b.requires.line)))
-
-pub counted-nc-requires : goal.counted-nc-requires
-counted-nc-requires c =
-    let b = c in
-    (rw (ap (λ (x : Verdict). x.answer) c.judge_line-j.ensures) (judge-answers _ _ _ _), b.requires.places, b.requires.within)
+pub invariant_of-decoder : goal.invariant_of-decoder
+unfolding bump
+invariant_of-decoder c =
+    let s = c.args.self in
+    record {
+      places = rw (c.counted-decoder.ensures, length-held (bump s.counts _), length-set) s.places;
+      within = rw c.counted-decoder.ensures (held-held (bump s.counts _));
+    }
 
 pub returns : goal.returns
-returns c =
-    let b = c in
-    stepped-end _ _ _ b.requires c.judge_line-j.ensures c.counted-nc.ensures
+returns c = stepped-end _ _ _ c.judge_line-judged.ensures (rw (c.emptied-decoder.ensures, c.counted-decoder.ensures) refl) refl

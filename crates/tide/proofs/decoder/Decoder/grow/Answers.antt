@@ -1,8 +1,9 @@
--- The line is what `longer_line` ensures. Assumes nothing.
+-- The line is what `longer` ensures. Assumes nothing.
+use mathlib.Core.Path.{refl}
+use Rattle.tide.specs.Decoder.{moved, grown}
 use Rattle.tide.proofs.Moves.{stepped-on}
 use Rattle.tide.proofs.decoder.Decoder.grow.Goals as goal
 
 pub returns : goal.returns
-returns c =
-    let b = c in
-    stepped-on _ _ _ b.requires c.longer_line-longer.ensures.0 c.longer_line-longer.ensures.1
+unfolding moved grown
+returns c = stepped-on _ _ _ refl (rw (← c.longer-self.ensures) refl) refl refl

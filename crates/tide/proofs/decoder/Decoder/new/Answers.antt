@@ -1,11 +1,14 @@
 -- Worked out. Assumes nothing.
 use mathlib.Core.Path.{refl}
-use native.Mathlib.Omega.{arith}
 use Rattle.tide.specs.Decoder.{fresh_decoder}
-use Rattle.tide.specs.DecoderRep.{held}
+use Rattle.tide.specs.Held.{held}
+use Rattle.tide.proofs.DecoderRepLaws.{sound-of}
 use Rattle.tide.proofs.decoder.Decoder.new.Goals as goal
 
+pub invariant_of-result : goal.invariant_of-result
+unfolding held
+invariant_of-result c = record { places = refl; within = refl }
+
 pub returns : goal.returns
-unfolding fresh_decoder held
-returns c =
-    record { same = refl; sound = record { line = record { short = omega arith; room = refl }; places = refl; within = refl } }
+unfolding fresh_decoder
+returns c = record { same = rw c.new.ensures refl; sound = sound-of _ }

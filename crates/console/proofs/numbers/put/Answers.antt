@@ -1,7 +1,0 @@
--- Behind the end nothing is stored. Assumes nothing.
-use lib.Seq.{set_out}
-use mathlib.Core.Path.{sym}
-use Rattle.console.proofs.numbers.put.Goals as goal
-
-pub returns-else-i-out : goal.returns-else-i-out
-returns-else-i-out c = sym (set_out _ _ _ c.if-i-out.false)

@@ -1,8 +1,0 @@
--- `numeric::compare::maximum` meets its contract: each arm returns what the test picks. Assumes nothing.
-use Rattle.numeric.proofs.compare.maximum.Goals as goal
-
-pub returns-then-a-b : goal.returns-then-a-b
-returns-then-a-b c = rw c.if-a-b.true
-
-pub returns-else-a-b : goal.returns-else-a-b
-returns-else-a-b c = rw c.if-a-b.false

@@ -1,5 +1,0 @@
--- The state is what `moved` ensures. Assumes nothing.
-use Rattle.wav.proofs.wav.Wav.bad.Goals as goal
-
-pub returns : goal.returns
-returns c = rw c.moved-state.ensures
