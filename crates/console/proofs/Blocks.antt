@@ -2,7 +2,7 @@
 use Prim.Native.Nat.{ℕ, ◌+◌, ◌≤◌, ◌<◌, min}
 use mathlib.Core.Path.{◌≡◌, refl, sym, ap, ◌∙◌}
 use mathlib.Core.Logic.{◌⊎◌, inl, inr}
-use mathlib.Core.Bool.{Bool, true, false}
+use mathlib.Core.Bool.{Bool}
 use mathlib.Core.List.{List, [], ◌∷◌, ◌++◌}
 use lib.ListN.{length, get_or, drop, length-append}
 use lib.Seq.{drop-cons, drop-length}
@@ -10,7 +10,7 @@ use native.Mathlib.Nat.{min-eq_left, min-eq_right}
 use native.Mathlib.Numerals.{add-one}
 use native.Mathlib.Omega.{arith}
 use Rattle.std.proofs.lemmas.Option.{cond_some}
-use Rattle.std.specs.Prelude.{Some, None, if◌then◌else◌, Result, Ok, Err, IfOk}
+use Rattle.std.specs.Prelude.{Some, None, if◌then◌else◌, Result, Ok, Err, IfOk, IfErr}
 use Rattle.happenings.specs.Happening.{typed}
 use Rattle.happenings.specs.declared.happening.Happening.{Happening}
 use Rattle.happenings.specs.declared.happening.Happening.TheVariants.{Byte}
@@ -146,3 +146,9 @@ pub judges_ok : {E : Type 0} (station : ℕ) (t : Text) (a : Result Text E) → 
     → IfOk a (Judges station)
 judges_ok station t (Ok r) e z h = judges station t r e z h
 judges_ok station t (Err x) e z h = tt
+
+-- and where one failed
+pub judges_err : {T : Type 0} (station : ℕ) (t : Text) (a : Result T Text) → decoder_of t.decoder ≡ fresh_decoder station → t.lines ≡ 0 → IfErr a (ReadSome t)
+    → IfErr a (Judges station)
+judges_err station t (Ok x) e z h = tt
+judges_err station t (Err r) e z h = judges station t r e z h

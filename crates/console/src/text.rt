@@ -1,10 +1,10 @@
 // Tide lines as text: each line of standard input is judged for a station, and its number and answer are printed; then the reading. What
 // prints answers whether all was written; once something was not, nothing more is.
-ghost use Rattle.std.specs.Prelude.{◌≡◌, IfOk, IfSome};
+ghost use Rattle.std.specs.Prelude.{◌≡◌, IfOk, IfErr, IfSome};
 ghost use Rattle.tide.specs.DecoderRep.{Sound};
 ghost use Rattle.console.specs.Text.{Taken, Read, ReadSome, Judges};
 
-use std::io::{Error, Read};
+use std::io::Read;
 use tide::{Decoder, Reading};
 
 // The decoder, how many lines it has judged (the count holds at the most that it can say), and whether all answers so far were written.
@@ -95,13 +95,16 @@ fn after_block(t: Text, s: &[u8]) -> Text
     r
 }
 
-// One read of the input: the text behind it, or none where the input is at its end.
-fn read_block<R: Read>(input: &mut R, t: Text) -> Result<Option<Text>, Error>
+// One read of the input: the text behind it, or none where the input is at its end. A read that fails answers the text before it.
+fn read_block<R: Read>(input: &mut R, t: Text) -> Result<Option<Text>, Text>
     requires { Sound t.decoder }
-    ensures { IfOk result (λ read. IfSome read (ReadSome t)) }
+    ensures read { IfOk result (λ read. IfSome read (ReadSome t)) }
+    ensures failed { IfErr result (ReadSome t) }
 {
     let mut block = io::buffer();
-    let n = input.read(&mut block)?;
+    let Ok(n) = input.read(&mut block) else {
+        return Err(t);
+    };
     if n == 0 {
         return Ok(None);
     }
@@ -109,15 +112,18 @@ fn read_block<R: Read>(input: &mut R, t: Text) -> Result<Option<Text>, Error>
 }
 
 // All of the input, while its answers are written. A proved loop has to end, and nothing says that the input does: the loop counts its turns,
-// up to a number that no run reaches.
-fn read_all<R: Read>(input: &mut R, t: Text) -> Result<Text, Error>
+// up to a number that no run reaches. Where a read failed the text is that of the reads before it.
+fn read_all<R: Read>(input: &mut R, t: Text) -> Result<Text, Text>
     requires { Sound t.decoder }
-    ensures { IfOk result (ReadSome t) }
+    ensures read { IfOk result (ReadSome t) }
+    ensures failed { IfErr result (ReadSome t) }
 {
     let mut r = t;
     for _ in 0..u64::MAX {
-        let Some(next) = read_block(input, r)? else {
-            return Ok(r);
+        let next = match read_block(input, r) {
+            Ok(Some(next)) => next,
+            Ok(None) => return Ok(r),
+            Err(before) => return Err(before),
         };
         r = next;
         if !r.told {
@@ -128,8 +134,9 @@ fn read_all<R: Read>(input: &mut R, t: Text) -> Result<Text, Error>
 }
 
 // The lines of the input, judged for a station by a fresh decoder.
-fn judge_input<R: Read>(input: &mut R, station: u16) -> Result<Text, Error>
-    ensures { IfOk result (Judges station) }
+fn judge_input<R: Read>(input: &mut R, station: u16) -> Result<Text, Text>
+    ensures read { IfOk result (Judges station) }
+    ensures failed { IfErr result (Judges station) }
 {
     let fresh = Text {
         decoder: Decoder::new(station),

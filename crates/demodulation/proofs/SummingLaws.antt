@@ -1,11 +1,14 @@
 -- The correlator's sums place by place, and from sample to sample. Assumes nothing.
-use Prim.Native.Nat.{ℕ}
-use mathlib.Core.Path.{◌≡◌, sym, ap, ap₂, subst, ◌∙◌}
-use mathlib.Core.List.{List}
+use Prim.Native.Nat.{ℕ, ◌+◌, ◌<◌}
+use mathlib.Core.Path.{◌≡◌, refl, sym, ap, ap₂, subst, ◌∙◌}
+use mathlib.Core.List.{List, [], ◌∷◌, ◌++◌}
+use native.Mathlib.Numerals.{add-one}
 use native.Mathlib.Omega.{arith}
 use lib.Ieee.{Float}
-use lib.ListN.{set, length-set}
-use lib.Seq.{take-set-le, take_all}
+use lib.ListN.{get_or, take, set, length-set}
+use lib.Seq.{take-suc, take-set-le, take_all}
+use Rattle.numeric.specs.F64.{◌⊕◌, zero64}
+use Rattle.numeric.specs.Fold.{fold}
 use Rattle.numeric.specs.Root.{root_of}
 use Rattle.demodulation.specs.Correlation.{places, sum_of, magnitude_of, multiplied}
 use Rattle.demodulation.specs.Summing.{SumTo, Summed}
@@ -14,6 +17,20 @@ use Rattle.demodulation.specs.declared.correlator.Rings.{Rings}
 use Rattle.demodulation.specs.declared.correlator.Sums.{Sums}
 
 -- ---- one ring
+fold-snoc : (b : Float) (xs : List Float) (x : Float) → fold ◌⊕◌ b (xs ++ (x ∷ [])) ≡ fold ◌⊕◌ b xs ⊕ x
+fold-snoc b [] x = refl
+fold-snoc b (y ∷ xs) x = fold-snoc (b ⊕ y) xs x
+
+-- a place more
+sum-turn : (n : ℕ) (ring : List Float) (x d : Float) → n < places → SumTo n ring x → SumTo (n + 1) ring (x ⊕ get_or ring n d)
+sum-turn n ring x d h s =
+    record {
+      sum =
+          rw (add-one, take-suc ring n d (omega (arith, s.long)), fold-snoc zero64 (take n ring) (get_or ring n d))
+          (ap (λ (y : Float). y ⊕ get_or ring n d) s.sum);
+      long = s.long;
+    }
+
 sum-end : (ring : List Float) (x : Float) → SumTo places ring x → x ≡ sum_of ring
 sum-end ring x s = s.sum ∙ ap sum_of (take_all places ring (omega (arith, s.long)))
 

@@ -7,7 +7,7 @@ ghost use Rattle.listen_app.specs.HostRep.{host_of, most_lines, Hosts, Writes};
 
 use bell103::Role;
 use board::Board;
-use console::{print_answer, print_field, print_reading};
+use console::{print_answer, print_reading};
 use tide::Reading;
 
 // The most lines that a write can end.
@@ -66,7 +66,7 @@ fn tell_fresh(told: bool, station: u16, shown: Option<Reading>) -> bool {
 
 // How many samples were not heard, where there are any.
 fn tell_unheard(n: u64) -> bool {
-    n == 0 || io::write_all(1, b"! 4") && print_field(n) && io::write_all(1, b"\n")
+    n == 0 || io::write_all(1, b"! 4 ") && io::print_decimal(1, n) && io::write_all(1, b"\n")
 }
 
 // Eight places on, or the end.

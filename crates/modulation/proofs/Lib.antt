@@ -16,3 +16,4 @@ pub mod TableList
 pub mod TableLaws
 pub mod TableSteps
 pub mod TableTxLaws
+pub mod TableRuns

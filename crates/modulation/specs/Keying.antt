@@ -1,7 +1,7 @@
 -- What moves with each sample of the sender that has no floats, as the code holds it, and what holds of it. Assumes nothing.
-use Rattle.std.specs.Prelude.{◌+◌, ◌*◌, ◌/◌, ◌≤◌, ◌<◌, ◌≡◌, Bool, List}
+use Rattle.std.specs.Prelude.{ℕ, zero, suc, ◌+◌, ◌-◌, ◌*◌, ◌/◌, ◌%◌, ◌≤◌, ◌<◌, ◌≡◌, Bool, List, [], ◌∷◌, ◌++◌, length, take, ℤ}
 use Rattle.modulation.specs.Bits.{queued, BitsHeld}
-use Rattle.modulation.specs.Table.{places}
+use Rattle.modulation.specs.Table.{places, entry_of}
 use Rattle.modulation.specs.TableTx.{Phase, phase, begun}
 use Rattle.modulation.specs.declared.table_tx.Hops.{Hops}
 use Rattle.modulation.specs.declared.table_tx.Keying.{Keying}
@@ -29,3 +29,21 @@ pub record Begins (a : List Bool) (k b : Keying) : Type 0 where
   pub place : b.place ≡ k.place
   pub samples : b.samples ≡ k.samples
   pub clock : b.symbols ≡ 3 * k.samples / 80 + 1
+
+-- ---- the samples of a symbol that goes on
+-- so many samples of a tone, from a place on
+unfoldable pub tone_samples : ℕ → ℕ → ℕ → List ℤ
+tone_samples zero hop p = []
+tone_samples (suc n) hop p = entry_of p ∷ tone_samples n hop ((p + hop) % places)
+
+-- the place behind them
+unfoldable pub place_behind : ℕ → ℕ → ℕ → ℕ
+place_behind zero hop p = p
+place_behind (suc n) hop p = place_behind n hop ((p + hop) % places)
+
+-- a slice that has them at `from` up to `to`, behind what stood there before
+pub record Holds (hop p from to : ℕ) (out out' : List ℤ) (r : ℕ) : Type 0 where
+  pub long : length out' ≡ length out
+  pub samples : take to out' ≡ take from out ++ tone_samples (to - from) hop p
+  pub place : r ≡ place_behind (to - from) hop p
+  pub at : r < places

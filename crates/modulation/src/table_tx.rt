@@ -1,9 +1,9 @@
 // The sender of a gauge that has no floats: the bits that wait, keyed as places of a table of sines, at 8,000 Hz. The phase and the symbol clock
 // are whole numbers and carry over from call to call, so blocks are read in order.
-ghost use Rattle.std.specs.Prelude.{◌≡◌, ◌+◌, ◌%◌, ◌≤◌, ◌<◌, length};
-ghost use Rattle.modulation.specs.Table.{places};
-ghost use Rattle.modulation.specs.TableTx.{hops_of, hop_of, begun, moved, sending, sent};
-ghost use Rattle.modulation.specs.Keying.{phase_of, Keyed, HopsHeld, Begins};
+ghost use Rattle.std.specs.Prelude.{◌≡◌, ◌+◌, ◌-◌, ◌%◌, ◌≤◌, ◌<◌, length};
+ghost use Rattle.modulation.specs.Table.{places, Turn};
+ghost use Rattle.modulation.specs.TableTx.{hops_of, hop_of, begun, moved, sending, sent, begins_at};
+ghost use Rattle.modulation.specs.Keying.{phase_of, Keyed, HopsHeld, Begins, Holds};
 
 use crate::bits::{ask_frames, ask_marks, take_bit};
 use crate::table::{entry, whole_turn};
@@ -109,7 +109,35 @@ fn step(bits: &[bool; 4096], h: Hops, k: Keying) -> Keying
     }
 }
 
-// Fills the slice with the next samples.
+// How many samples more the symbol in force lasts.
+fn symbol_rest(bits: &[bool; 4096], k: Keying) -> u64
+    requires { Keyed bits.now k }
+    ensures { (result ≡ begins_at k.symbols - k.samples) × (result ≤ 26) }
+{
+    (80 * k.symbols + 2) / 3 - k.samples
+}
+
+// The samples at `from` up to `to`, in which no symbol begins: only the place moves, by the tone in force.
+fn hold_tone(
+    turn: &[i32; 1600],
+    hop: usize,
+    place: usize,
+    out: &mut [i32],
+    from: usize,
+    to: usize,
+) -> usize
+    requires { Turn turn.now × (place < places) × (hop ≤ places) × (from ≤ to) × (to ≤ length out.old) }
+    ensures { Holds hop place from to out.old out.new result }
+{
+    let mut at = place;
+    for i in from..to {
+        out[i] = entry(turn, at);
+        at = turned(at + hop);
+    }
+    at
+}
+
+// Fills the slice with the next samples: one with which a symbol may begin, then those of its symbol, in a loop with few jumps.
 fn fill(bits: &[bool; 4096], h: Hops, k: Keying, out: &mut [i32]) -> Keying
     requires { Keyed bits.now k × HopsHeld h × (k.samples + length out.old ≤ 4294967296) }
     ensures result_after { sending out.new (phase_of bits.now result) ≡ sent (length out.old) h (phase_of bits.now k) }
@@ -121,8 +149,17 @@ fn fill(bits: &[bool; 4096], h: Hops, k: Keying, out: &mut [i32]) -> Keying
     while i < out.len() {
         let value = entry(&turn, keying.place);
         out[i] = value;
-        keying = step(bits, h, keying);
+        let s = step(bits, h, keying);
         i += 1;
+        let rest = symbol_rest(bits, s) as usize;
+        let n = rest.min(out.len() - i);
+        let place = hold_tone(&turn, hop_of(h, s.current), s.place, out, i, i + n);
+        keying = Keying {
+            place,
+            samples: s.samples + n as u64,
+            ..s
+        };
+        i += n;
     }
     keying
 }

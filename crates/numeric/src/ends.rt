@@ -12,5 +12,5 @@ pub fn smaller(a: usize, b: usize) -> usize
 pub fn part_end(from: usize, elements: u32, all: usize) -> usize
     ensures { (result ≡ from + min elements (all - from)) × (from ≤ result) × (from ≤ all → result ≤ all) }
 {
-    from + (elements as usize).min(all.saturating_sub(from))
+    from + smaller(elements as usize, all.saturating_sub(from))
 }

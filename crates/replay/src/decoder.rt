@@ -47,44 +47,27 @@ pub fn fresh() -> Decoder {
     }
 }
 
-// The next line begins.
-fn counted(mut d: Decoder) -> Decoder {
-    d.line = d.line.wrapping_add(1);
-    d
-}
-
 // A line that is none of those that main.rt lists: nothing is done.
-fn malformed(d: Decoder) -> Decoder {
+fn malformed(line: u64) {
     print::text(b"? line ");
-    print::number(d.line);
+    print::number(line);
     print::end_line();
-    d
 }
 
-fn with_rx(mut d: Decoder, rx: Rx) -> Decoder {
+// The states are lent and changed where they stand: they are large, and each copy takes long. The call that is made took what was in the block.
+fn with_rx(d: &mut Decoder, rx: Rx) {
     d.rx = rx;
     d.n = 0;
-    d
 }
 
-fn with_resampler(mut d: Decoder, resampler: Resampler) -> Decoder {
+fn with_resampler(d: &mut Decoder, resampler: Resampler) {
     d.resampler = resampler;
     d.n = 0;
-    d
 }
 
-fn with_tx(mut d: Decoder, tx: Tx) -> Decoder {
+fn with_tx(d: &mut Decoder, tx: Tx) {
     d.tx = tx;
     d.n = 0;
-    d
-}
-
-// So many samples or bytes in the block.
-fn with_places(mut d: Decoder, n: usize) -> Decoder
-    requires { n ≤ 2049 }
-{
-    d.n = n;
-    d
 }
 
 // A number up to a most.
@@ -94,85 +77,106 @@ fn up_to(most: u64, n: u64) -> Option<u64>
     if n <= most { Some(n) } else { None }
 }
 
-// ---- the calls of the receiver and the resampler: none where the line is not as main.rt says
+// ---- the calls of the receiver and the resampler: none where the line is not as main.rt says, and then the states are as they were
 
-fn new_receiver(d: Decoder, line: &[u8]) -> Option<Decoder> {
+fn new_receiver(d: &mut Decoder, line: &[u8]) -> Option<()> {
     let [rate, role] = numbers_of::<2>(line, false)?;
-    Some(with_rx(d, receiver::create(word(rate)?, up_to(1, role)?)))
+    with_rx(d, receiver::create(word(rate)?, up_to(1, role)?));
+    Some(())
 }
 
-fn write(d: Decoder, block: &[u64], line: &[u8]) -> Option<Decoder> {
+fn write(d: &mut Decoder, block: &[u64], line: &[u8]) -> Option<()> {
     let [bytes, events] = numbers_of::<2>(line, false)?;
     let mut samples = [0.0f32; PLACES];
     singles(block, &mut samples);
     let rx = receiver::write(d.rx, &samples[..d.n], bytes, events);
-    Some(with_rx(d, rx))
+    with_rx(d, rx);
+    Some(())
 }
 
-fn new_resampler(d: Decoder, line: &[u8]) -> Option<Decoder> {
+fn new_resampler(d: &mut Decoder, line: &[u8]) -> Option<()> {
     let [src, dst] = numbers_of::<2>(line, false)?;
-    Some(with_resampler(d, resampler::create(word(src)?, word(dst)?)))
+    with_resampler(d, resampler::create(word(src)?, word(dst)?));
+    Some(())
 }
 
-fn process(d: Decoder, block: &[u64], line: &[u8]) -> Option<Decoder> {
+fn process(d: &mut Decoder, block: &[u64], line: &[u8]) -> Option<()> {
     let [room] = numbers_of::<1>(line, false)?;
     let places = up_to(MOST_ROOM, room)?;
     let mut input = [0.0f64; PLACES];
     doubles(block, &mut input);
     let r = resampler::process(d.resampler, &input[..d.n], places as usize);
-    Some(with_resampler(d, r))
+    with_resampler(d, r);
+    Some(())
 }
 
-fn longest(d: Decoder, line: &[u8]) -> Option<Decoder> {
+fn longest(line: &[u8]) -> Option<()> {
     let [src, dst, n] = numbers_of::<3>(line, false)?;
     resampler::longest(word(src)?, word(dst)?, n);
-    Some(d)
+    Some(())
 }
 
 // ---- the sender's calls
 
-fn new_sender(d: Decoder, line: &[u8]) -> Option<Decoder> {
+fn new_sender(d: &mut Decoder, line: &[u8]) -> Option<()> {
     let [rate, role] = numbers_of::<2>(line, false)?;
-    Some(with_tx(d, sender::create(word(rate)?, up_to(1, role)?)))
+    with_tx(d, sender::create(word(rate)?, up_to(1, role)?));
+    Some(())
 }
 
-fn set_amplitude(d: Decoder, line: &[u8]) -> Option<Decoder> {
+fn set_amplitude(d: &mut Decoder, line: &[u8]) -> Option<()> {
     let [pattern] = numbers_of::<1>(line, true)?;
     let bits = word(pattern)?;
-    Some(with_tx(d, sender::set_amplitude(d.tx, bits as u64)))
+    let tx = sender::set_amplitude(d.tx, bits as u64);
+    with_tx(d, tx);
+    Some(())
 }
 
-fn send(d: Decoder, block: &[u64], line: &[u8]) -> Option<Decoder> {
+fn send(d: &mut Decoder, block: &[u64], line: &[u8]) -> Option<()> {
     if line.len() != 1 {
         return None;
     }
     let mut bytes = [0u8; PLACES];
     bytes_of(block, &mut bytes);
     let tx = sender::write(d.tx, &bytes[..d.n]);
-    Some(with_tx(d, tx))
+    with_tx(d, tx);
+    Some(())
 }
 
-fn idle_mark(d: Decoder, line: &[u8]) -> Option<Decoder> {
+fn idle_mark(d: &mut Decoder, line: &[u8]) -> Option<()> {
     let [bits] = numbers_of::<1>(line, false)?;
-    Some(with_tx(d, sender::idle_mark(d.tx, bits)))
+    let tx = sender::idle_mark(d.tx, bits);
+    with_tx(d, tx);
+    Some(())
 }
 
-fn read(d: Decoder, line: &[u8], each: bool) -> Option<Decoder> {
+fn read(d: &mut Decoder, line: &[u8], each: bool) -> Option<()> {
     let [samples] = numbers_of::<1>(line, false)?;
     let n = up_to(MOST_READ, samples)?;
-    Some(with_tx(d, sender::read(d.tx, n as usize, each)))
+    let tx = sender::read(d.tx, n as usize, each);
+    with_tx(d, tx);
+    Some(())
 }
 
-fn duration(d: Decoder, line: &[u8]) -> Option<Decoder> {
+fn duration(d: &mut Decoder, line: &[u8]) -> Option<()> {
     let [bits] = numbers_of::<1>(line, false)?;
     sender::duration(d.tx, bits);
-    Some(with_tx(d, d.tx))
+    d.n = 0;
+    Some(())
 }
 
 // ---- a line
 
+// So many samples or bytes in the block.
+fn with_places(d: &mut Decoder, n: usize) -> Option<()>
+    requires { n ≤ 2049 }
+{
+    d.n = n;
+    Some(())
+}
+
 // What a line does, by its letter.
-fn done(d: Decoder, block: &mut [u64], line: &[u8]) -> Option<Decoder>
+fn done(d: &mut Decoder, block: &mut [u64], line: &[u8]) -> Option<()>
     requires { length block.old ≡ 2049 }
     ensures { length block.new ≡ 2049 }
 {
@@ -181,23 +185,32 @@ fn done(d: Decoder, block: &mut [u64], line: &[u8]) -> Option<Decoder>
         [b'#', ..] => {
             print::text(line);
             print::end_line();
-            Some(d)
+            Some(())
         }
-        [b'S', ..] => Some(with_places(d, several(block, d.n, line)?)),
-        [b'N', ..] => Some(with_places(d, equal(block, d.n, line)?)),
-        [b'B', ..] => Some(with_places(d, signs(block, d.n, line)?)),
+        [b'S', ..] => {
+            let n = several(block, d.n, line)?;
+            with_places(d, n)
+        }
+        [b'N', ..] => {
+            let n = equal(block, d.n, line)?;
+            with_places(d, n)
+        }
+        [b'B', ..] => {
+            let n = signs(block, d.n, line)?;
+            with_places(d, n)
+        }
         [letter, ..] => call(d, *letter, block, line),
     }
 }
 
 // The lines that make a call.
-fn call(d: Decoder, letter: u8, block: &[u64], line: &[u8]) -> Option<Decoder> {
+fn call(d: &mut Decoder, letter: u8, block: &[u64], line: &[u8]) -> Option<()> {
     match letter {
         b'R' => new_receiver(d, line),
         b'W' => write(d, block, line),
         b'Z' => new_resampler(d, line),
         b'P' => process(d, block, line),
-        b'M' => longest(d, line),
+        b'M' => longest(line),
         b'T' => new_sender(d, line),
         b'A' => set_amplitude(d, line),
         b'K' => send(d, block, line),
@@ -210,13 +223,12 @@ fn call(d: Decoder, letter: u8, block: &[u64], line: &[u8]) -> Option<Decoder> {
 }
 
 // One line, without its end.
-pub fn run(before: Decoder, block: &mut [u64], line: &[u8]) -> Decoder
+pub fn run(d: &mut Decoder, block: &mut [u64], line: &[u8])
     requires { length block.old ≡ 2049 }
     ensures { length block.new ≡ 2049 }
 {
-    let d = counted(before);
-    match done(d, block, line) {
-        Some(after) => after,
-        None => malformed(d),
+    d.line = d.line.wrapping_add(1);
+    if done(d, block, line).is_none() {
+        malformed(d.line);
     }
 }

@@ -54,22 +54,13 @@ fn scan(input: &[u8], from: usize, line: &mut [u8], filled: usize) -> Scanned
     }
 }
 
-// The states, and how many characters of the next line stand in the buffer.
-#[derive(Clone, Copy)]
-struct Taken {
-    decoder: Decoder,
-    n: usize,
-}
-
 // Runs the line if it ended.
-fn run_ended(decoder: Decoder, block: &mut [u64], line: &[u8], ended: bool) -> Decoder
+fn run_ended(d: &mut Decoder, block: &mut [u64], line: &[u8], ended: bool)
     requires { length block.old ≡ 2049 }
     ensures { length block.new ≡ 2049 }
 {
     if ended {
-        run(decoder, block, line)
-    } else {
-        decoder
+        run(d, block, line);
     }
 }
 
@@ -87,28 +78,27 @@ fn left(n: usize, ended: bool) -> usize
     if ended { 0 } else { n }
 }
 
-// Runs each line that ends in this part of the input.
+// Runs each line that ends in this part of the input: how many characters of the next line stand in the buffer.
 fn run_part(
-    decoder: Decoder,
+    d: &mut Decoder,
     block: &mut [u64],
     line: &mut [u8],
     filled: usize,
     input: &[u8],
-) -> Taken
+) -> usize
     requires { (length block.old ≡ 2049) × (length line.old ≡ 321) × (filled ≤ 321) }
-    ensures { (length block.new ≡ 2049) × (length line.new ≡ 321) × (result.n ≤ 321) }
+    ensures { (length block.new ≡ 2049) × (length line.new ≡ 321) × (result ≤ 321) }
 {
-    let mut d = decoder;
     let mut n = filled;
     let mut at = 0;
     while at < input.len() {
         let s = scan(input, at, line, n);
         let end = runnable(s.n);
-        d = run_ended(d, block, &line[..end], s.ended);
+        run_ended(d, block, &line[..end], s.ended);
         n = left(s.n, s.ended);
         at = s.at;
     }
-    Taken { decoder: d, n }
+    n
 }
 
 // How many bytes a read of standard input puts at the front; 0 at its end, and where it cannot be read.
@@ -131,8 +121,6 @@ pub fn run_all(rt: &HostRuntime) {
         if got == 0 {
             return;
         }
-        let t = run_part(d, &mut block, &mut line, n, &input[..got]);
-        d = t.decoder;
-        n = t.n;
+        n = run_part(&mut d, &mut block, &mut line, n, &input[..got]);
     }
 }

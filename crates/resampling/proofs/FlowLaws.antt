@@ -1,13 +1,15 @@
 -- Laws of a whole input's definitions. Assumes nothing.
-use Prim.Native.Nat.{ℕ, zero, suc, ◌-◌, ◌≤◌, zero-le}
-use mathlib.Core.Path.{◌≡◌, refl}
+use Prim.Native.Nat.{ℕ, zero, suc, min, ◌-◌, ◌≤◌, zero-le}
+use mathlib.Core.Path.{◌≡◌, refl, sym, ◌∙◌}
 use mathlib.Core.Bool.{Bool, true, false}
 use mathlib.Core.List.{List, [], ◌∷◌, ◌++◌}
 use native.Mathlib.Omega.{arith}
-use lib.ListN.{length, length-append}
+use lib.ListN.{length, take, drop, length-append, length-take}
 use lib.Ieee.{Float}
 use Rattle.std.specs.Prelude.{if◌then◌else◌}
+use Rattle.numeric.proofs.Parts.{take_min}
 use Rattle.resampling.specs.Flow.{Filter, Flow, Ran, ran, wants, pushed, emitted, drained, fed}
+use Rattle.resampling.specs.FlowRep.{Copied}
 
 -- ---- where the window covers no output, none is made
 pub drained-none : (f : Filter) (room : ℕ) (s : Flow) → wants s ≡ false → drained f room s ≡ ran [] s
@@ -37,3 +39,7 @@ fed-length f room (x ∷ xs) s =
     let h = drained-length f room (pushed f x s) in
     let k = fed-length f (room - length d.out) xs d.flow in
     either room (wants d.flow) d (ran (d.out ++ rest.out) rest.flow) h (rw (length-append d.out rest.out) (omega arith))
+
+-- ---- equal rates: n samples stand in front, and there are no more, or there is no more room
+pub copied_all : (xs out : List Float) (n : ℕ) → n ≡ min (length out) (length xs) → Copied xs out (take n xs ++ drop n out) n
+copied_all xs out n e = record { are = rw (e, take_min); count_is = e ∙ sym (length-take (length out) xs) }

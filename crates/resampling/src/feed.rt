@@ -201,6 +201,9 @@ pub fn copy(input: &[f64], output: &mut [f64]) -> usize
     ensures { Copied input.now output.old output.new result }
 {
     let n = output.len().min(input.len());
-    output[..n].copy_from_slice(&input[..n]);
+    // An index: two slices are walked side by side. `copy_from_slice` would need `memmove` from outside the library for C.
+    for i in 0..n {
+        output[i] = input[i];
+    }
     n
 }

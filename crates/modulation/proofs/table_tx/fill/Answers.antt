@@ -1,11 +1,13 @@
 -- `table_tx::fill` meets its contract: each turn stores one sample more. Assumes nothing.
-use Prim.Native.Nat.{◌-◌}
+use Prim.Native.Nat.{◌+◌, ◌-◌, ◌≤◌}
+use Rattle.modulation.specs.TableTx.{begins_at}
 use mathlib.Core.Path.{refl, ◌∙◌}
 use mathlib.Core.List.{[]}
 use native.Mathlib.Omega.{arith}
-use lib.ListN.{length-set}
+use lib.ListN.{length, length-set}
 use Rattle.modulation.proofs.TableSteps.{one_on, sent-start, sent-turn, sent-done}
 use Rattle.modulation.proofs.TableLaws.{stays}
+use Rattle.modulation.proofs.TableRuns.{run-keyed, run-sent}
 use mir.Syntax.{w32}
 use mir.Val.{to_z, of_z}
 use Rattle.modulation.proofs.table_tx.fill.Goals as goal
@@ -19,8 +21,8 @@ entry-value-requires c = (c.whole_turn-turn.ensures, c.loop-i.invariant.2.at)
 pub offset_bounds-out-i : goal.offset_bounds-out-i
 offset_bounds-out-i c = omega arith
 
-pub step-keying-requires : goal.step-keying-requires
-step-keying-requires c = (c.loop-i.invariant.2, c.requires.1, omega (arith, c.loop-i.invariant.3))
+pub step-s-requires : goal.step-s-requires
+step-s-requires c = (c.loop-i.invariant.2, c.requires.1, omega (arith, c.loop-i.invariant.3))
 
 pub overflow_add-i : goal.overflow_add-i
 overflow_add-i c = omega arith
@@ -31,13 +33,19 @@ loop-i-smaller c = omega arith
 pub loop-i-preserved : goal.loop-i-preserved
 loop-i-preserved c =
     let l = c.loop-i in
-    let t = c.step-keying in
-    let v = stays _ _ l.invariant.2.at c.entry-value.ensures in (
-      omega arith,
-      omega (arith, length-set l.out l.i (to_z w32 (of_z w32 c.entry-value.result))),
-      t.ensures.1,
-      omega (arith, l.invariant.3, one_on _ _ _ _ t.ensures.0),
-      sent-turn _ _ _ _ _ _ _ (omega arith) (omega arith) v t.ensures.0 ∙ l.invariant.4,
+    let t = c.step-s.ensures in
+    let o = c.hold_tone-place.ensures in
+    let v = stays _ _ l.invariant.2.at c.entry-value.ensures in
+    let g = length-set l.out l.i (to_z w32 (of_z w32 c.entry-value.result)) in
+    let s = one_on _ _ _ _ t.0 in
+    let d : c.min-n.result ≤ begins_at c.step-s.result.symbols - c.step-s.result.samples = omega (arith, c.min-n.ensures, c.symbol_rest-rest.ensures.0) in
+    let b : l.i + 1 + c.min-n.result ≤ length c.args.out.now = omega (arith, c.min-n.ensures, g, l.invariant.1) in (
+      b,
+      omega (arith, o.long, g, l.invariant.1),
+      run-keyed _ _ _ _ t.1 d o.at (omega (arith, s, l.invariant.3, b)),
+      omega (arith, s, l.invariant.3, b),
+      run-sent _ _ _ _ t.1 d _ _ _ _ _ _ c.hop_of.ensures o b
+          ∙ sent-turn _ _ _ _ _ _ _ (omega arith) (omega arith) v t.0 ∙ l.invariant.4,
     )
 
 pub shape_of-out : goal.shape_of-out

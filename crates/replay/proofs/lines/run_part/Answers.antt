@@ -11,6 +11,6 @@ slice_bounds-run_ended-end-in-loop-at c =
 pub loop-at-preserved : goal.loop-at-preserved
 loop-at-preserved c =
     let s = c.scan-s in
-    let e = c.run_ended-d in
+    let e = c.run_ended in
     let i = c.loop-at.invariant in
     (e.ensures, s.ensures.3 ∙ i.1, omega (arith, c.left-n.ensures, s.ensures.2, i.1), s.ensures.1)
