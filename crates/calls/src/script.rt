@@ -10,10 +10,9 @@ use refusal::Counting;
 // The kind of a `write`, for each sender.
 const WRITE: u64 = 0;
 
-// What a call answers: its refusal, 0 where it is accepted, and its value; and the sender.
+// What a call answers: its refusal, 0 where it is accepted, and its value.
 #[derive(Clone, Copy)]
-pub struct Called<S> {
-    pub state: S,
+pub struct Called {
     pub number: u32,
     pub value: usize,
 }
@@ -33,14 +32,14 @@ pub trait Scripted: Copy {
     fn places_for(kind: u64, n: u64) -> usize
         ensures { result ≡ sends.places kind n };
 
-    // The call of this kind, lent these bytes and these places.
-    fn make_call(self, kind: u64, n: u64, bytes: &[u8], part: &mut [Self::Sample]) -> Called<Self>
-        ensures part_after { outcome result.number result.value (state_of result.state) part.new
-            ≡ sends.called kind n (state_of self) bytes.now part.old };
+    // The call of this kind, lent these bytes and these places, and the sender: handed on by value, it would be copied once more a call.
+    fn make_call(&mut self, kind: u64, n: u64, bytes: &[u8], part: &mut [Self::Sample]) -> Called
+        ensures part_after { outcome result.number result.value (state_of self.new) part.new
+            ≡ sends.called kind n (state_of self.old) bytes.now part.old };
 
     // Whether bits wait.
-    fn waits(self) -> bool
-        ensures { result ≡ sends.waits (state_of self) };
+    fn waits(&self) -> bool
+        ensures { result ≡ sends.waits (state_of self.now) };
 }
 
 fn bytes_for(kind: u64, n: u64) -> usize
@@ -49,41 +48,36 @@ fn bytes_for(kind: u64, n: u64) -> usize
     if kind == WRITE { n as usize } else { 0 }
 }
 
-// Where a list of calls stands: the sender, and how much of the data and of the samples is behind it.
+// How much of the data and of the samples is behind a list of calls.
 #[derive(Clone, Copy)]
-struct Place<S> {
-    state: S,
+struct Place {
     read: usize,
     written: usize,
 }
 
 // One call, and its three numbers at `at` of the answers.
 fn one_call<S: Scripted>(
-    p: Place<S>,
+    sender: &mut S,
+    p: Place,
     kind: u64,
     n: u64,
     data: &[u8],
     samples: &mut [S::Sample],
     answers: &mut [u64],
     at: usize,
-) -> Place<S>
+) -> Place
     requires { (p.read ≤ length «data».now) × (p.written ≤ length samples.old) × (at + 3 ≤ length answers.old) }
-    ensures stepped { Stepped S.sends (standing (S.state_of p.state) p.read p.written) (standing (S.state_of result.state) result.read result.written)
+    ensures stepped { Stepped S.sends (standing (S.state_of sender.old) p.read p.written) (standing (S.state_of sender.new) result.read result.written)
         kind n «data».now samples.old samples.new (take at answers.old) (drop (at + 3) answers.old) answers.new }
     ensures within { (result.read ≤ length «data».now) × (result.written ≤ length samples.new) }
 {
-    let Place {
-        state,
-        read,
-        written,
-    } = p;
+    let Place { read, written } = p;
     let end = read + bytes_for(kind, n).min(data.len() - read);
     let upto = written + S::places_for(kind, n).min(samples.len() - written);
-    let c = state.make_call(kind, n, &data[read..end], &mut samples[written..upto]);
-    let waits = u64::from(c.state.waits());
+    let c = sender.make_call(kind, n, &data[read..end], &mut samples[written..upto]);
+    let waits = u64::from(sender.waits());
     put_row(answers, at, &[c.number as u64, c.value as u64, waits]);
     Place {
-        state: c.state,
         read: end,
         written: upto,
     }
@@ -105,13 +99,14 @@ pub fn all_calls<S: Scripted>(
         (S.state_of sender) «data».now script.now samples.old }
 {
     let calls = (script.len() / 2).min(answers.len() / 3);
+    let mut state = sender;
     let mut place = Place {
-        state: sender,
         read: 0,
         written: 0,
     };
     for i in 0..calls {
         place = one_call(
+            &mut state,
             place,
             script[2 * i],
             script[2 * i + 1],
@@ -123,6 +118,6 @@ pub fn all_calls<S: Scripted>(
     }
     Counting {
         count: calls,
-        state: place.state,
+        state,
     }
 }

@@ -64,39 +64,39 @@ impl Scripted for Tx {
         }
     }
 
-    fn make_call(self, kind: u64, n: u64, bytes: &[u8], part: &mut [f32]) -> Called<Tx> {
+    fn make_call(&mut self, kind: u64, n: u64, bytes: &[u8], part: &mut [f32]) -> Called {
         match Kind::from(kind) {
             Kind::Write => {
                 let q = self.write(bytes);
+                *self = q.state;
                 Called {
                     number: number_in(q.answer),
                     value: 0,
-                    state: q.state,
                 }
             }
             Kind::IdleMark => {
                 let q = self.write_idle_mark(n as usize);
+                *self = q.state;
                 Called {
                     number: number_in(q.answer),
                     value: 0,
-                    state: q.state,
                 }
             }
             Kind::Amplitude => {
                 let a = self.set_amplitude(amplitude_in(n));
+                *self = a.state;
                 Called {
                     number: number_in(a.answer),
                     value: 0,
-                    state: a.state,
                 }
             }
             Kind::Read => {
                 let places = part.len();
                 let g = self.read(part);
+                *self = g.state;
                 Called {
                     number: number_in(g.answer),
                     value: unless_refused(g.answer, places),
-                    state: g.state,
                 }
             }
             Kind::SamplesForBits => {
@@ -104,13 +104,12 @@ impl Scripted for Tx {
                 Called {
                     number: t.number,
                     value: t.count,
-                    state: self,
                 }
             }
         }
     }
 
-    fn waits(self) -> bool {
+    fn waits(&self) -> bool {
         self.pending()
     }
 }

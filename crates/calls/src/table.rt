@@ -46,37 +46,37 @@ impl Scripted for TableTx {
         }
     }
 
-    fn make_call(self, kind: u64, n: u64, bytes: &[u8], part: &mut [i32]) -> Called<TableTx> {
+    fn make_call(&mut self, kind: u64, n: u64, bytes: &[u8], part: &mut [i32]) -> Called {
         match TableKind::from(kind) {
             TableKind::Write => {
                 let q = self.write(bytes);
+                *self = q.state;
                 Called {
                     number: number_in(q.answer),
                     value: 0,
-                    state: q.state,
                 }
             }
             TableKind::IdleMark => {
                 let q = self.write_idle_mark(n as usize);
+                *self = q.state;
                 Called {
                     number: number_in(q.answer),
                     value: 0,
-                    state: q.state,
                 }
             }
             TableKind::Read => {
                 let places = part.len();
                 let g = self.read(part);
+                *self = g.state;
                 Called {
                     number: number_in(g.answer),
                     value: unless_refused(g.answer, places),
-                    state: g.state,
                 }
             }
         }
     }
 
-    fn waits(self) -> bool {
+    fn waits(&self) -> bool {
         self.pending()
     }
 }

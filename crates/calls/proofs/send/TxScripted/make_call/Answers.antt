@@ -12,19 +12,19 @@ use Rattle.calls.proofs.send.TxScripted.make_call.Goals as goal
 pub returns-in-Write : goal.returns-in-Write
 returns-in-Write c =
     let a = c.args in
-    record { part_after = rw c.number_in.ensures (ap (λ (q : Queueing). of_queueing q a.part.now) c.write-q.ensures.state_value) ∙ called-is a.n (sender_of a.self) a.bytes.now a.part.now a.kind _ (rw c.in-Write.is at c.from.ensures) }
+    record { part_after = rw c.number_in.ensures (ap (λ (q : Queueing). of_queueing q a.part.now) c.write-q.ensures.state_value) ∙ called-is a.n (sender_of a.self.now) a.bytes.now a.part.now a.kind _ (rw c.in-Write.is at c.from.ensures) }
 
 pub returns-in-IdleMark : goal.returns-in-IdleMark
 returns-in-IdleMark c =
     let a = c.args in
-    record { part_after = rw c.number_in-in-IdleMark.ensures (ap (λ (q : Queueing). of_queueing q a.part.now) c.write_idle_mark-q.ensures.state_value) ∙ called-is a.n (sender_of a.self) a.bytes.now a.part.now a.kind _ (rw c.in-IdleMark.is at c.from.ensures) }
+    record { part_after = rw c.number_in-in-IdleMark.ensures (ap (λ (q : Queueing). of_queueing q a.part.now) c.write_idle_mark-q.ensures.state_value) ∙ called-is a.n (sender_of a.self.now) a.bytes.now a.part.now a.kind _ (rw c.in-IdleMark.is at c.from.ensures) }
 
 pub returns-in-Amplitude : goal.returns-in-Amplitude
 returns-in-Amplitude c =
     let a = c.args in
     record {
-      part_after = rw c.number_in-in-Amplitude.ensures (ap (λ (q : Adjusted). of_adjusted q a.part.now) (c.set_amplitude-a.ensures ∙ ap (amplitude_of (sender_of a.self)) c.amplitude_in.ensures))
-          ∙ called-is a.n (sender_of a.self) a.bytes.now a.part.now a.kind _ (rw c.in-Amplitude.is at c.from.ensures);
+      part_after = rw c.number_in-in-Amplitude.ensures (ap (λ (q : Adjusted). of_adjusted q a.part.now) (c.set_amplitude-a.ensures ∙ ap (amplitude_of (sender_of a.self.now)) c.amplitude_in.ensures))
+          ∙ called-is a.n (sender_of a.self.now) a.bytes.now a.part.now a.kind _ (rw c.in-Amplitude.is at c.from.ensures);
     }
 
 pub returns-in-Read : goal.returns-in-Read
@@ -32,7 +32,7 @@ returns-in-Read c =
     let a = c.args in
     record {
       part_after = rw (c.number_in-in-Read.ensures, c.unless_refused.ensures) (ap (λ (r : Reading). of_reading r (length a.part.now)) c.read-g.ensures.0)
-          ∙ called-is a.n (sender_of a.self) a.bytes.now a.part.now a.kind _ (rw c.in-Read.is at c.from.ensures);
+          ∙ called-is a.n (sender_of a.self.now) a.bytes.now a.part.now a.kind _ (rw c.in-Read.is at c.from.ensures);
     }
 
 pub returns-in-SamplesForBits : goal.returns-in-SamplesForBits
@@ -40,6 +40,6 @@ returns-in-SamplesForBits c =
     let a = c.args in
     let t = c.numbers_of-t.ensures in
     record {
-      part_after = rw (t.0, t.1) (ap (λ (d : Reply ℕ). of_duration d (sender_of a.self) a.part.now) c.samples_for_bits.ensures)
-          ∙ called-is a.n (sender_of a.self) a.bytes.now a.part.now a.kind _ (rw c.in-SamplesForBits.is at c.from.ensures);
+      part_after = rw (t.0, t.1) (ap (λ (d : Reply ℕ). of_duration d (sender_of a.self.now) a.part.now) c.samples_for_bits.ensures)
+          ∙ called-is a.n (sender_of a.self.now) a.bytes.now a.part.now a.kind _ (rw c.in-SamplesForBits.is at c.from.ensures);
     }

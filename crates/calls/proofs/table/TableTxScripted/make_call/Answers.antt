@@ -12,7 +12,7 @@ returns-in-Write c =
     let a = c.args in
     record {
       part_after = rw c.number_in.ensures (ap (λ (q : TableQueueing). of_table_queueing q a.part.now) c.write-q.ensures.state_value)
-          ∙ table-called-is a.n (table_of a.self) a.bytes.now a.part.now a.kind _ (rw c.in-Write.is at c.from.ensures);
+          ∙ table-called-is a.n (table_of a.self.now) a.bytes.now a.part.now a.kind _ (rw c.in-Write.is at c.from.ensures);
     }
 
 pub returns-in-IdleMark : goal.returns-in-IdleMark
@@ -20,7 +20,7 @@ returns-in-IdleMark c =
     let a = c.args in
     record {
       part_after = rw c.number_in-in-IdleMark.ensures (ap (λ (q : TableQueueing). of_table_queueing q a.part.now) c.write_idle_mark-q.ensures.state_value)
-          ∙ table-called-is a.n (table_of a.self) a.bytes.now a.part.now a.kind _ (rw c.in-IdleMark.is at c.from.ensures);
+          ∙ table-called-is a.n (table_of a.self.now) a.bytes.now a.part.now a.kind _ (rw c.in-IdleMark.is at c.from.ensures);
     }
 
 pub returns-in-Read : goal.returns-in-Read
@@ -28,5 +28,5 @@ returns-in-Read c =
     let a = c.args in
     record {
       part_after = rw (c.number_in-in-Read.ensures, c.unless_refused.ensures) (ap (λ (r : TableReading). of_table_reading r (length a.part.now)) c.read-g.ensures.out_after)
-          ∙ table-called-is a.n (table_of a.self) a.bytes.now a.part.now a.kind _ (rw c.in-Read.is at c.from.ensures);
+          ∙ table-called-is a.n (table_of a.self.now) a.bytes.now a.part.now a.kind _ (rw c.in-Read.is at c.from.ensures);
     }
