@@ -32,7 +32,7 @@ pub trait Scripted: Copy {
     fn places_for(kind: u64, n: u64) -> usize
         ensures { result ≡ sends.places kind n };
 
-    // The call of this kind, lent these bytes and these places, and the sender: handed on by value, it would be copied once more a call.
+    // The call of this kind, lent these bytes and these places, and the sender: handed on by value, it would be copied more often.
     fn make_call(&mut self, kind: u64, n: u64, bytes: &[u8], part: &mut [Self::Sample]) -> Called
         ensures part_after { outcome result.number result.value (state_of self.new) part.new
             ≡ sends.called kind n (state_of self.old) bytes.now part.old };
